@@ -1,0 +1,4 @@
+pub mod Chain
+pub mod Fault
+pub mod Layers
+pub mod Store

@@ -1,0 +1,3 @@
+pub mod Lender
+pub mod Pile
+pub mod Writes
