@@ -31,7 +31,7 @@ pub struct Fault {
 
 impl Fault {
     // A fault of the store that was asked itself.
-    pub(crate) fn own(cause: Cause, cell: u16) -> Fault
+    pub fn own(cause: Cause, cell: u16) -> Fault
         ensures { λ r. ⌜ r ≡ own-fault cause cell ⌝ }
     {
         Fault {
@@ -54,7 +54,7 @@ impl Fault {
 }
 
 // What a layer answers where the store below it answered `below`.
-pub(crate) fn raised(below: Result<(), Fault>) -> Result<(), Fault>
+pub fn raised(below: Result<(), Fault>) -> Result<(), Fault>
     ensures { λ r. ⌜ r ≡ raised-result below ⌝ }
 {
     match below {

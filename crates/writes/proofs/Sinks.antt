@@ -11,14 +11,14 @@ use lib.Dec.{eqb}
 use Rattle.std.proofs.shelf.Tests.{cases-eq, eq-eqb, ne-eqb}
 use Rattle.std.specs.declared.option.Option.{Option}
 use Rattle.std.specs.declared.option.Option.the-variants.{Some, None}
-use Rattle.stores.specs.declared.allowance.Allowance.{Allowance}
-use Rattle.stores.specs.declared.behind.WriteBehind.{WriteBehind}
+use Rattle.layers.specs.declared.allowance.Allowance.{Allowance}
+use Rattle.layers.specs.declared.behind.WriteBehind.{WriteBehind}
 use Rattle.stores.specs.declared.chain.ChainStore.{ChainStore}
-use Rattle.stores.specs.declared.held.Held.{Held}
-use Rattle.stores.specs.declared.lent.Lent.{Lent}
+use Rattle.layers.specs.declared.held.Held.{Held}
+use Rattle.layers.specs.declared.lent.Lent.{Lent}
 use Rattle.stores.specs.Store.{most, reached, extent, reached-length}
 use Rattle.stores.specs.Chain.{Linked, head-values, head-values-length}
-use Rattle.stores.specs.Layers.{Sank, covered, covered-length}
+use Rattle.layers.specs.Layers.{Sank, covered, covered-length}
 use Rattle.stores.specs.declared.record.Record.{Record}
 use Rattle.writes.specs.Lender.{Chains, chained}
 use Rattle.writes.specs.Pile.{Gauge, gauge-of, taken, after-write}

@@ -5,15 +5,15 @@ use lib.Dec.{eqb}
 use Rattle.std.specs.declared.option.Option.{Option}
 use Rattle.std.specs.declared.option.Option.the-variants.{Some, None}
 use denote.Ref.{now}
-use Rattle.stores.specs.declared.allowance.Allowance.{Allowance}
-use Rattle.stores.specs.declared.behind.WriteBehind.{WriteBehind}
+use Rattle.layers.specs.declared.allowance.Allowance.{Allowance}
+use Rattle.layers.specs.declared.behind.WriteBehind.{WriteBehind}
 use Rattle.stores.specs.declared.chain.ChainStore.{ChainStore}
-use Rattle.stores.specs.declared.held.Held.{Held}
-use Rattle.stores.specs.declared.lent.Lent.{Lent}
+use Rattle.layers.specs.declared.held.Held.{Held}
+use Rattle.layers.specs.declared.lent.Lent.{Lent}
 use Rattle.stores.specs.Fault.{Verdict, existing}
 use Rattle.stores.specs.Store.{extent}
 use Rattle.stores.specs.Chain.{chain-verdict}
-use Rattle.stores.specs.Layers.{allowance-verdict, held-verdict}
+use Rattle.layers.specs.Layers.{allowance-verdict, held-verdict}
 
 -- the cells, the writes left, what is held, and how many of how many records are used
 pub record Gauge (V : Type 0) : Type 0 where

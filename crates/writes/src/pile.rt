@@ -6,14 +6,14 @@ ghost use Rattle.writes.specs.Pile.{gauge-of, pile-verdict, after-write};
 use crate::each::write_each;
 use crate::turn::Turn;
 use elements::element::Element;
-use stores::allowance::Allowance;
-use stores::allowance::AllowanceStore;
-use stores::behind::WriteBehind;
-use stores::behind::WriteBehindStore;
+use layers::allowance::Allowance;
+use layers::allowance::AllowanceStore;
+use layers::behind::WriteBehind;
+use layers::behind::WriteBehindStore;
+use layers::lent::Lent;
+use layers::lent::LentStore;
 use stores::chain::ChainStore;
 use stores::chain::ChainStoreStore;
-use stores::lent::Lent;
-use stores::lent::LentStore;
 
 // An allowance over a write-behind over a chain store.
 pub type Pile<'a, 'b, E> = Allowance<WriteBehind<E, Lent<'b, ChainStore<'a, E>>>>;

@@ -1,7 +1,7 @@
 use mathlib.Core.Path.{ap}
 use denote.Ref.{now}
 use Rattle.stores.specs.Fault.{existing}
-use Rattle.stores.specs.Layers.{allowance-verdict, held-verdict}
+use Rattle.layers.specs.Layers.{allowance-verdict, held-verdict}
 use Rattle.stores.specs.Chain.{chain-verdict}
 use Rattle.writes.specs.Pile.{gauge-of, pile-verdict, after-write}
 use Rattle.writes.proofs.Goes.{went-answered, went-changed}

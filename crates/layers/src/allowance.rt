@@ -1,12 +1,12 @@
 ghost use mathlib.Core.Path.{_≡_};
 ghost use Prim.Native.Nat.{_+_};
 ghost use lib.ListN.{length};
 ghost use Rattle.stores.specs.Fault.{existing-past};
-ghost use Rattle.stores.specs.Layers.{allowance-verdict};
-use crate::fault::Cause;
-use crate::fault::Fault;
-use crate::fault::raised;
-use crate::store::Store;
+ghost use Rattle.layers.specs.Layers.{allowance-verdict};
+use stores::fault::Cause;
+use stores::fault::Fault;
+use stores::fault::raised;
+use stores::store::Store;
 
 // A number of writes left, over any store.
 #[derive(Drop)]

@@ -1,14 +1,14 @@
 ghost use mathlib.Core.Path.{_≡_};
 ghost use lib.ListN.{length};
 ghost use Rattle.std.specs.declared.option.Option.the-variants.{Some, None};
 ghost use Rattle.stores.specs.Fault.{existing, existing-past};
-ghost use Rattle.stores.specs.Layers.{covered, covered-few, held-verdict, Sank};
-use crate::fault::Cause;
-use crate::fault::Fault;
-use crate::fault::raised;
+ghost use Rattle.layers.specs.Layers.{covered, covered-few, held-verdict, Sank};
 use crate::held::Held;
-use crate::store::Store;
 use elements::element::Element;
+use stores::fault::Cause;
+use stores::fault::Fault;
+use stores::fault::raised;
+use stores::store::Store;
 
 // Holds the last write back, over any store.
 #[derive(Drop)]

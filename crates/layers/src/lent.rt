@@ -1,7 +1,7 @@
 ghost use mathlib.Core.Path.{_≡_};
 ghost use denote.Ref.{name, now};
-use crate::fault::Fault;
-use crate::store::Store;
+use stores::fault::Fault;
+use stores::store::Store;
 
 // A store that is lent, so that a layer can stand on one that its owner gets back.
 #[derive(Drop)]

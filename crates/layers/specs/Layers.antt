@@ -7,10 +7,10 @@ use lib.Dec.{eqb}
 use lib.ListN.{length, set, length-set}
 use Rattle.std.specs.declared.option.Option.{Option}
 use Rattle.std.specs.declared.option.Option.the-variants.{Some, None}
 use Rattle.stores.specs.declared.fault.Cause.the-variants.{AllowanceSpent}
-use Rattle.stores.specs.declared.held.Held.{Held}
+use Rattle.layers.specs.declared.held.Held.{Held}
 use Rattle.stores.specs.Fault.{Verdict, own-fault, raised-verdict, existing}
 use Rattle.stores.specs.Store.{most}
 
 -- with so many writes left, and the verdict of the store below
 abbrev pub allowance-verdict : ℕ → ℕ → ℕ → Verdict → Verdict
