@@ -49,11 +49,20 @@ pub impl<S: Store> Store for WriteBehind<S::E, S> as WriteBehindStore {
             return Err(Fault::own(Cause::NoSuchCell, cell));
         }
         match self.held {
-            Some(h) if h.cell != cell => raised(self.below.write(h.cell, h.value))?,
-            _ => {}
+            None => {
+                self.held = Some(Held { cell, value });
+                Ok(())
+            }
+            Some(h) => {
+                if h.cell == cell {
+                    self.held = Some(Held { cell, value });
+                    return Ok(());
+                }
+                raised(self.below.write(h.cell, h.value))?;
+                self.held = Some(Held { cell, value });
+                Ok(())
+            }
         }
-        self.held = Some(Held { cell, value });
-        Ok(())
     }
 }
 

@@ -11,7 +11,7 @@ use Rattle.std.proofs.shelf.Lists.{drop-all}
 use Rattle.std.proofs.shelf.Tests.{cases-lt}
 use Rattle.stores.specs.declared.record.Record.{Record}
 use Rattle.stores.specs.Store.{most, reached, extent}
-use Rattle.stores.specs.Chain.{Sound, record-value, head-values, cleared}
+use Rattle.stores.specs.Chain.{Sound, record-value, head-values, cleared, Linked}
 use Rattle.stores.proofs.Reached.{reached-set}
 
 pub head-value-at : {V : Type 0} (rest : V) (rs : List (Record V)) (hs : List ℕ) (i : ℕ) → getD (head-values rest rs hs) i rest ≡ record-value rest rs (getD hs i 0)
@@ -40,6 +40,14 @@ module _ {V : Type 0} (rest : V) (rs : List (Record V)) (u : ℕ) (r : Record V)
   pub values-written : (hs : List ℕ) (i : ℕ) → ((k : ℕ) → getD hs k 0 ≤ u) → u < length rs → head-values rest (set rs u r) (set hs i (u + 1)) ≡ set (head-values rest rs hs) i (r .value)
   unfolding head-values
   values-written hs i all lt = map-set (record-value rest (set rs u r)) hs i (u + 1) ∙ ap (λ v. set (head-values rest (set rs u r) hs) i v) (value-new lt) ∙ ap (λ cs. set cs i (r .value)) (values-kept hs all)
+
+-- so does a write that links a record
+pub linked-values : {V : Type 0} (rest : V) (hs : List ℕ) (rs : List (Record V)) (u i : ℕ) (v : V) (hs′ : List ℕ) (rs′ : List (Record V)) (u′ : ℕ) → ((k : ℕ) → getD (reached hs) k 0 ≤ u) → i < extent hs → u < length rs → Linked hs rs u i v hs′ rs′ u′ → head-values rest rs′ (reached hs′) ≡ set (head-values rest rs (reached hs)) i v
+linked-values rest hs rs u i v hs′ rs′ u′ all h lt (eh, er, eu) =
+    ap (λ l. head-values rest rs′ (reached l)) eh
+    ∙ ap (λ l. head-values rest l (reached (set hs i (u + 1)))) er
+    ∙ ap (head-values rest (set rs u (record { value = v; next = getD hs i 0 }))) (reached-set hs i (u + 1) h)
+    ∙ values-written rest rs u (record { value = v; next = getD hs i 0 }) (reached hs) i all lt
 
 heads-below : (hs : List ℕ) (u i : ℕ) → ((k : ℕ) → getD hs k 0 ≤ u) → (k : ℕ) → getD (set hs i (u + 1)) k 0 ≤ u + 1
 heads-below [] u i all k = omega arith

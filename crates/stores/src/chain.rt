@@ -1,6 +1,7 @@
 ghost use mathlib.Core.Path.{_≡_};
 ghost use denote.Ref.{name, now};
-ghost use Prim.Native.Nat.{ℕ};
+ghost use Prim.Native.Nat.{ℕ, _<_};
+ghost use lib.ListN.{length, getD};
 ghost use Rattle.stores.specs.Store.{reached, extent};
 ghost use Rattle.stores.specs.Chain.{Sound, record-value, head-values, head-values-few, chain-verdict, chain-beyond, Linked, cleared};
 use crate::fault::Cause;
@@ -46,14 +47,14 @@ pub impl<'a, E: Element> Store for ChainStore<'a, E> as ChainStoreStore {
     ghost beyond = { λ s i h. chain-beyond (E·Element .rest) (now (s .records)) (now (s .heads)) (s .used) (extent (now (s .records))) i h };
 
     fn count(&self) -> u16 {
-        reach(self.heads.len())
+        self.heads_taken()
     }
 
     fn read(&self, cell: u16) -> E {
         if cell >= reach(self.heads.len()) {
             return E::at_rest();
         }
-        value_of(&*self.records, self.heads[cell as usize])
+        self.value_at(cell)
     }
 
     fn write(&mut self, cell: u16, value: E) -> Result<(), Fault> {
@@ -63,11 +64,38 @@ pub impl<'a, E: Element> Store for ChainStore<'a, E> as ChainStoreStore {
         if self.used >= reach(self.records.len()) {
             return Err(Fault::own(Cause::RecordsUsedUp, cell));
         }
+        self.link(cell, value);
+        Ok(())
+    }
+}
+
+impl<'a, E: Element> ChainStore<'a, E> {
+    // How many heads the store takes, and so cells.
+    fn heads_taken(&self) -> u16
+        ensures { λ r. ⌜ r ≡ length (head-values (E·Element .rest) (now (now (self .entry) .records)) (reached (now (now (self .entry) .heads)))) ⌝ }
+    {
+        reach(self.heads.len())
+    }
+
+    // The value of a cell's head record.
+    fn value_at(&self, cell: u16) -> E
+        requires { ⌜ cell < extent (now (now self .heads)) ⌝ }
+        ensures { λ r. ⌜ r ≡ getD (head-values (E·Element .rest) (now (now (self .entry) .records)) (reached (now (now (self .entry) .heads)))) cell (E·Element .rest) ⌝ }
+    {
+        value_of(&*self.records, self.heads[cell as usize])
+    }
+
+    // Takes the next record for the value, points it at the cell's head and makes it the head.
+    fn link(&mut self, cell: u16, value: E)
+        requires { ⌜ cell < extent (now (now self .heads)) ⌝ ∗ ⌜ now self .used < extent (now (now self .records)) ⌝ }
+        ensures linked { λ _. ⌜ Linked (now (now (self .entry) .heads)) (now (now (self .entry) .records)) (now (self .entry) .used) cell value (now (now (self .exit) .heads)) (now (now (self .exit) .records)) (now (self .exit) .used) ⌝ }
+        ensures heads { λ _. ⌜ name (now (self .exit) .heads) ≡ name (now (self .entry) .heads) ⌝ }
+        ensures records { λ _. ⌜ name (now (self .exit) .records) ≡ name (now (self .entry) .records) ⌝ }
+    {
         let next = self.heads[cell as usize];
         self.records[self.used as usize] = Record { value, next };
         self.used += 1;
         self.heads[cell as usize] = self.used;
-        Ok(())
     }
 }
 

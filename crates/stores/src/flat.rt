@@ -1,12 +1,14 @@
 ghost use mathlib.Core.Path.{_≡_};
 ghost use denote.Ref.{name, now};
-ghost use lib.ListN.{set};
+ghost use Prim.Native.Nat.{_<_};
+ghost use lib.ListN.{getD, set};
 ghost use Rattle.std.specs.declared.option.Option.the-variants.{None};
 ghost use Rattle.stores.specs.Fault.{existing};
 ghost use Rattle.stores.specs.Store.{reached, extent, reached-few, flat-beyond};
 use crate::fault::Cause;
 use crate::fault::Fault;
 use crate::reach::reach;
+use crate::reach::reach_of;
 use crate::store::Store;
 use elements::element::Element;
 
@@ -30,17 +32,14 @@ pub impl<'a, E: Element> Store for FlatStore<'a, E> as FlatStoreStore {
     ghost beyond = { λ s i h. flat-beyond (now (s .places)) i h };
 
     fn count(&self) -> u16 {
-        reach(self.places.len())
+        reach_of(&*self.places)
     }
 
     fn read(&self, cell: u16) -> E {
         if cell >= reach(self.places.len()) {
             return E::at_rest();
         }
-        match self.places.get(cell as usize) {
-            Some(value) => *value,
-            None => E::at_rest(),
-        }
+        self.value_at(cell)
     }
 
     fn write(&mut self, cell: u16, value: E) -> Result<(), Fault> {
@@ -49,6 +48,18 @@ pub impl<'a, E: Element> Store for FlatStore<'a, E> as FlatStoreStore {
         }
         self.places[cell as usize] = value;
         Ok(())
+    }
+}
+
+impl<'a, E: Element> FlatStore<'a, E> {
+    fn value_at(&self, cell: u16) -> E
+        requires { ⌜ cell < extent (now (now self .places)) ⌝ }
+        ensures { λ r. ⌜ r ≡ getD (reached (now (now (self .entry) .places))) cell (E·Element .rest) ⌝ }
+    {
+        match self.places.get(cell as usize) {
+            Some(value) => *value,
+            None => E::at_rest(),
+        }
     }
 }
 

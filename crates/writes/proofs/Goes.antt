@@ -2,6 +2,7 @@
 use Prim.Native.Nat.{ℕ, zero, suc, _+_, _<_}
 use mathlib.Core.Path.{_≡_, refl, sym, ap, _∙_, subst}
 use mathlib.Core.List.{List, [], _∷_, _++_, map}
+use native.Mathlib.Omega.{arith}
 use lib.ListN.{set, take, length, getD}
 use Rattle.std.proofs.shelf.Lists.{take-more-set}
 use Rattle.std.specs.declared.result.Result.{Result}
@@ -13,25 +14,23 @@ use Rattle.stores.specs.Store.{Wrote}
 use Rattle.writes.specs.declared.turn.Turn.{Turn}
 use Rattle.writes.specs.Writes.{Went, asked, changed, all-changed, Answered}
 
-abbrev with-answer : {V : Type 0} → Turn V → Result (Unit {0}) Fault → Turn V
-with-answer e a = record { cell = e .cell; value = e .value; answer = a }
-
 module _ {S V : Type 0} (cells : S → List V) (verdict : S → ℕ → Verdict) (took : S → ℕ → V → S → Type 0) where
   went-push : (s : S) (es : List (Turn V)) (m : S) (e : Turn V) (n : S) → Went cells verdict took s es m → Wrote cells verdict took m (e .cell) (e .value) (e .answer) n → Went cells verdict took s (es ++ e ∷ []) n
   went-push s [] m e n r st = let P : S → Type 0 = λ k. Wrote cells verdict took k (e .cell) (e .value) (e .answer) n in (n, subst P r st, refl)
   went-push s (q ∷ es) m e n r st = (r .0, r .1, went-push (r .0) es m e n (r .2) st)
 
-  asked-kept : (es : List (Turn V)) (i : ℕ) (d : Turn V) (a : Result (Unit {0}) Fault) → map asked (set es i (with-answer (getD es i d) a)) ≡ map asked es
-  asked-kept [] i d a = refl
-  asked-kept (e ∷ es) zero d a = refl
-  asked-kept (e ∷ es) (suc i) d a = ap (λ ps. asked e ∷ ps) (asked-kept es i d a)
+  asked-kept : (es : List (Turn V)) (i : ℕ) (d e : Turn V) → i < length es → asked e ≡ asked (getD es i d) → map asked (set es i e) ≡ map asked es
+  asked-kept [] i d e lt same = refl
+  asked-kept (q ∷ es) zero d e lt same = ap (λ p. p ∷ map asked es) same
+  asked-kept (q ∷ es) (suc i) d e lt same = ap (λ ps. asked q ∷ ps) (asked-kept es i d e (omega arith) same)
 
-  -- the turn at i, answered
-  pub went-more : (s : S) (es : List (Turn V)) (ps : List (ℕ × V)) (i : ℕ) (m : S) (d : Turn V) (a : Result (Unit {0}) Fault) (n : S) → i < length es → Wrote cells verdict took m (getD es i d .cell) (getD es i d .value) a n → Went cells verdict took s (take i es) m × (map asked es ≡ ps) → Went cells verdict took s (take (i + 1) (set es i (with-answer (getD es i d) a))) n × (map asked (set es i (with-answer (getD es i d) a)) ≡ ps)
-  went-more s es ps i m d a n lt st (r, k) =
-      let e : Turn V = with-answer (getD es i d) a in
+  -- the turn at i is taken: e has its answer and asks for the same
+  pub went-more : (s : S) (es : List (Turn V)) (ps : List (ℕ × V)) (i : ℕ) (m : S) (d e : Turn V) (n : S) → i < length es → e .cell ≡ getD es i d .cell → e .value ≡ getD es i d .value → Wrote cells verdict took m (getD es i d .cell) (getD es i d .value) (e .answer) n → Went cells verdict took s (take i es) m × (map asked es ≡ ps) → Went cells verdict took s (take (i + 1) (set es i e)) n × (map asked (set es i e) ≡ ps)
+  went-more s es ps i m d e n lt ec ev st (r, k) =
+      let same : asked e ≡ asked (getD es i d) = λ j. (ec j, ev j) in
+      let Q : ℕ × V → Type 0 = λ p. Wrote cells verdict took m (p .0) (p .1) (e .answer) n in
       let P : List (Turn V) → Type 0 = λ l. Went cells verdict took s l n in
-      (subst P (sym (take-more-set es i e lt)) (went-push s (take i es) m e n r st), asked-kept es i d a ∙ k)
+      (subst P (sym (take-more-set es i e lt)) (went-push s (take i es) m e n r (subst Q (sym same) st)), asked-kept es i d e lt same ∙ k)
 
   -- what every accepted write leaves, a list of writes leaves
   pub went-kept : {M : Type 0} (measure : S → M) → ((s : S) (i : ℕ) (v : V) (t : S) → took s i v t → measure t ≡ measure s) → (s : S) (es : List (Turn V)) (t : S) → Went cells verdict took s es t → measure t ≡ measure s

@@ -6,7 +6,7 @@ use Rattle.writes.proofs.Goes.{went-more}
 use Rattle.writes.proofs.each.write_each.Needs as need
 
 pub loop-turn-again : need.loop-turn-again
-loop-turn-again g c = went-more _ _ _ _ _ _ _ _ _ _ _ (omega arith) (c .write-turn .ensures) (c .loop-turn .inv)
+loop-turn-again g c = went-more _ _ _ _ _ _ _ _ _ _ _ (omega arith) (c .take-turn .ensures .cell) (c .take-turn .ensures .value) (c .take-turn .ensures .wrote) (c .loop-turn .inv)
 
 pub returns : need.returns
 returns g c =

@@ -1,10 +1,9 @@
-use borrow.Author.Needs.{needs}
-use mathlib.Core.Path.{sym, ap, _∙_}
 use native.Mathlib.Omega.{arith}
-use Prim.Native.Nat.{_<_, _≤_}
+use mathlib.Core.Path.{sym, ap, _∙_}
+use Prim.Native.Nat.{_≤_}
 use Rattle.stores.specs.Store.{extent}
 use Rattle.stores.specs.Chain.{record-value}
-use Rattle.stores.proofs.Reached.{reached-at, reached-past}
+use Rattle.stores.proofs.Reached.{reached-past}
 use Rattle.stores.proofs.Chains.{head-value-at}
 use Rattle.stores.proofs.chain.ChainStoreStore.read.Needs as need
 
@@ -12,8 +11,3 @@ pub returns-then-cell-reach : need.returns-then-cell-reach
 returns-then-cell-reach g c =
     let h : extent (c .args .self .now .heads .now) ≤ c .args .cell = omega arith in
     c .at-rest .ensures ∙ sym (ap (record-value _ (c .args .self .now .records .now)) (reached-past _ _ 0 h)) ∙ sym (head-value-at _ _ _ _)
-
-pub returns : need.returns
-returns g c =
-    let h : c .args .cell < extent (c .args .self .now .heads .now) = omega arith in
-    c .value-of .ensures ∙ sym (ap (record-value _ (c .args .self .now .records .now)) (reached-at _ _ 0 h)) ∙ sym (head-value-at _ _ _ _)
