@@ -1,0 +1,15 @@
+pub mod Kinds
+pub mod Refusals
+pub mod Tasks
+pub mod Questions
+pub mod Stretches
+pub mod Cutting
+pub mod Sweeping
+pub mod Holdings
+pub mod Records
+pub mod View
+pub mod Pairs
+pub mod Ready
+pub mod Turns
+pub mod Counting
+pub mod Asked

@@ -1,0 +1,25 @@
+// The order rules of nested tasks over cells. They know of no store.
+pub mod access;
+mod calls;
+mod counters;
+mod creation;
+pub mod deed;
+mod editing;
+mod held_now;
+pub mod holding;
+pub mod kind;
+mod lookup;
+mod overlap;
+mod ready;
+pub mod refusal;
+pub mod room;
+mod run;
+mod runs;
+mod startable;
+pub mod state;
+mod steps;
+mod sweep;
+pub mod table;
+mod task;
+mod tree;
+mod turns;

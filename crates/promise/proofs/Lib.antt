@@ -1,0 +1,9 @@
+pub mod Kept
+pub mod Swapping
+pub mod EndOrder
+pub mod Line
+pub mod Within
+pub mod Invariant
+pub mod Replay
+pub mod Progress
+pub mod Longer

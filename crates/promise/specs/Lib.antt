@@ -1,0 +1,4 @@
+pub mod Program
+pub mod Runs
+pub mod Promise
+pub mod Worked
