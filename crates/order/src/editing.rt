@@ -17,6 +17,9 @@ use crate::kind::Kind;
 use crate::run::Run;
 use crate::runs::Runs;
 
+// The runs that a record has room for.
+const MOST_RUNS: usize = 16;
+
 impl Runs {
     pub(crate) fn none() -> Runs
         ensures { λ r. ⌜ in-use r ≡ [] ⌝ }
@@ -64,7 +67,7 @@ impl Runs {
         if run.lo >= run.hi {
             return true;
         }
-        if self.as_slice().len() >= 16 {
+        if self.as_slice().len() >= MOST_RUNS {
             return false;
         }
         self.list[self.len] = run;

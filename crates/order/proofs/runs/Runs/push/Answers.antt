@@ -20,8 +20,8 @@ returns-then-run c =
     let f = c .args .self .now .few in
     record { room = sym (ap (λ l. leb (length l) 16) e ∙ le-leb _ 16 (omega arith)); runs = λ _. sym e }
 
-pub returns-then-as-slice-ge16 : need.returns-then-as-slice-ge16
-returns-then-as-slice-ge16 c =
+pub returns-then-as-slice-ge-MOST-RUNS : need.returns-then-as-slice-ge-MOST-RUNS
+returns-then-as-slice-ge-MOST-RUNS c =
     let e = ap (λ l. in-use (c .args .self .now) ++ l) (any-one (c .args .run) (c .if-run .left)) in
     let a = length-append (in-use (c .args .self .now)) (c .args .run ∷ []) in
     let b = ap length (c .as-slice .ensures) in
