@@ -1,6 +1,6 @@
--- The two elements and how numbers write them.
+-- The two elements: at rest, updated, and as numbers write them.
 use mathlib.Core.List.{List, [], _∷_}
-use Prim.Native.Nat.{ℕ}
+use Prim.Native.Nat.{ℕ, _+_, _%_, _^_, min, max}
 use Rattle.std.specs.declared.option.Option.{Option}
 use Rattle.std.specs.declared.option.Option.the-variants.{Some, None}
 use Rattle.elements.specs.declared.count.Count.{Count}
@@ -11,6 +11,18 @@ count-of n = record { value = n }
 
 abbrev pub span-of : ℕ → ℕ → Span
 span-of a b = record { first = a; last = b }
+
+-- a count's update adds, modulo 2^64
+abbrev pub count-updated : Count → Count → Count
+count-updated v a = count-of ((v .value + a .value) % 2 ^ 64)
+
+-- a span at rest spans nothing
+abbrev pub span-rest : Span
+span-rest = span-of 18446744073709551615 0
+
+-- a span's update takes the smaller first and the larger last
+abbrev pub span-updated : Span → Span → Span
+span-updated v a = span-of (min (v .first) (a .first)) (max (v .last) (a .last))
 
 -- a count is written by one number
 abbrev pub count-made : List ℕ → Option Count

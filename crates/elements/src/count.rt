@@ -1,6 +1,5 @@
 ghost use mathlib.Core.List.{_∷_, []};
-ghost use Prim.Native.Nat.{_+_, _%_, _^_};
-ghost use Rattle.elements.specs.Element.{count-of, count-made};
+ghost use Rattle.elements.specs.Element.{count-of, count-made, count-updated};
 use crate::element::Element;
 
 // A count that wraps at 2^64.
@@ -20,7 +19,7 @@ pub impl Element for Count as CountElement {
 
     ghost made = { count-made };
 
-    ghost updated = { λ v a. count-of ((v .value + a .value) % 2 ^ 64) };
+    ghost updated = { count-updated };
 
     fn at_rest() -> Count {
         Count { value: 0 }

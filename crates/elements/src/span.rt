@@ -1,6 +1,5 @@
 ghost use mathlib.Core.List.{_∷_, []};
-ghost use Prim.Native.Nat.{min, max};
-ghost use Rattle.elements.specs.Element.{span-of, span-made};
+ghost use Rattle.elements.specs.Element.{span-made, span-rest, span-updated};
 use crate::element::Element;
 
 // The span from a first to a last moment; at rest it spans nothing, so that the first update sets both ends.
@@ -13,7 +12,7 @@ pub struct Span {
 pub impl Element for Span as SpanElement {
     const WIDTH: usize = 2;
 
-    ghost rest = { span-of 18446744073709551615 0 };
+    ghost rest = { span-rest };
 
     ghost width = { 2 };
 
@@ -21,7 +20,7 @@ pub impl Element for Span as SpanElement {
 
     ghost made = { span-made };
 
-    ghost updated = { λ v a. span-of (min (v .first) (a .first)) (max (v .last) (a .last)) };
+    ghost updated = { span-updated };
 
     fn at_rest() -> Span {
         Span {

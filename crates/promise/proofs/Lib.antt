@@ -7,3 +7,4 @@ pub mod Invariant
 pub mod Replay
 pub mod Progress
 pub mod Longer
+pub mod Cases

@@ -1,27 +1,5 @@
-use mathlib.Core.Path.{refl}
-use Rattle.order.specs.Kinds.{combine, conflict, covers}
+use Rattle.promise.proofs.Cases.{worked}
 use Rattle.promise.proofs.worked_cases.Needs as need
 
--- each is computed
 pub returns : need.returns
-unfolding combine conflict covers
-returns c =
-    record {
-      weak-bars = refl;
-      finish-lets-go = refl;
-      wait-flag-keeps = refl;
-      commutative-one-at-a-time = refl;
-      commutative-goes-on = refl;
-      commutative-childless = refl;
-      combined = refl;
-      combined-reads = refl;
-      out-reads-not = refl;
-      in-covers-not-out = refl;
-      hands-over = (
-        refl,
-        refl,
-        (refl, refl, (refl, refl, (refl, refl, (refl, refl, (refl, refl, (refl, refl, (refl, refl, (refl, refl, (refl, refl, refl))))))))),
-      );
-      handed-in-order = refl;
-      nested-first = refl;
-    }
+returns c = worked
