@@ -1,0 +1,4 @@
+pub mod Turns
+pub mod Histories
+pub mod Ready
+pub mod Entries

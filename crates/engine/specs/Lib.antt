@@ -1,0 +1,4 @@
+pub mod Numbers
+pub mod Run
+pub mod Calls
+pub mod Worked
