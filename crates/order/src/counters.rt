@@ -9,7 +9,7 @@ use crate::task::Task;
 
 impl Task {
     // Whether it and all its descendants are finished.
-    pub fn is_complete(&self) -> bool
+    pub(crate) fn is_complete(&self) -> bool
         ensures { λ r. ⌜ r ≡ complete (now (self .entry)) ⌝ }
     {
         match self.state {
@@ -19,7 +19,7 @@ impl Task {
     }
 
     // It has made a child.
-    pub fn open_child(&mut self)
+    pub(crate) fn open_child(&mut self)
         requires { ⌜ now self .open ≤ 64 ⌝ }
         ensures { λ _. ⌜ now (self .exit) ≡ with-open (now (self .entry)) (now (self .entry) .open + 1) ⌝ }
     {

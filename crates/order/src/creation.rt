@@ -8,10 +8,9 @@ ghost use Rattle.order.specs.View.{view};
 use crate::access::Access;
 use crate::holding::Holding;
 use crate::refusal::Refusal;
+use crate::room::MOST_TASKS;
 use crate::runs::Runs;
 use crate::table::Table;
-
-const MOST_TASKS: usize = 64;
 
 const MOST_ACCESSES: usize = 8;
 

@@ -2,10 +2,8 @@ ghost use mathlib.Core.Path.{_≡_};
 ghost use Rattle.order.specs.Ready.{Listed};
 ghost use Rattle.order.specs.View.{view};
 use crate::refusal::Refusal;
+use crate::room::MOST_TASKS;
 use crate::table::Table;
-
-// The most tasks that a table holds, so that a list with as many places is never too short.
-const MOST_TASKS: usize = 64;
 
 impl Table {
     // Lists the tasks that may start now and says how many they are.

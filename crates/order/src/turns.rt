@@ -19,7 +19,7 @@ pub enum Turn {
 
 impl Task {
     // Turns the task to the state that follows, where it stands where the call needs it.
-    pub fn turn(&mut self, call: Turn) -> Result<(), Refusal>
+    pub(crate) fn turn(&mut self, call: Turn) -> Result<(), Refusal>
         ensures { λ r. ⌜ Turned (now (self .entry)) call r (now (self .exit)) ⌝ }
     {
         self.state = match (self.state, call) {
@@ -33,7 +33,7 @@ impl Task {
     }
 
     // Lets go of the region, all of which has to be held, where few enough runs remain.
-    pub fn release(&mut self, lo: u16, hi: u16) -> Result<(), Refusal>
+    pub(crate) fn release(&mut self, lo: u16, hi: u16) -> Result<(), Refusal>
         requires { ⌜ lo < hi ⌝ }
         ensures { λ r. ⌜ ((n : ℕ) → hi ≤ n → Reach (now (self .entry) .runs) n → Released (now (self .entry)) lo hi n r (now (self .exit))) ⌝ }
     {
@@ -48,7 +48,7 @@ impl Task {
     }
 
     // Whether a resume is open to it.
-    pub fn may_resume(&self) -> Result<(), Refusal>
+    pub(crate) fn may_resume(&self) -> Result<(), Refusal>
         ensures { λ r. ⌜ answer-number r ≡ first-number (resume-questions (now (self .entry))) ⌝ }
     {
         match self.state {
