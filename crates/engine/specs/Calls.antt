@@ -1,7 +1,7 @@
 -- What a single call says beside its entry of a run.
 -- Assumes nothing.
 use mathlib.Core.Path.{_≡_}
-use mathlib.Core.Bool.{false, cond}
+use mathlib.Core.Bool.{false}
 use mathlib.Core.List.{List}
 use Prim.Native.Nat.{ℕ}
 use lib.ListN.{take, drop}
@@ -10,7 +10,7 @@ use Rattle.std.specs.declared.result.Result.{Result}
 use Rattle.std.specs.declared.result.Result.the-variants.{Ok, Err}
 use Rattle.order.specs.Questions as rules
 use Rattle.order.specs.Questions.{start, all-yes, first-number, accepted}
-use Rattle.order.specs.Ready.{times}
+use Rattle.order.specs.Ready.{Startable}
 use Rattle.order.specs.Records.{tally}
 use Rattle.order.specs.Tasks.{World, count}
 use Rattle.stores.specs.Fault.{Verdict}
@@ -24,7 +24,7 @@ use Rattle.engine.specs.Run.{is-open, Blames}
 abbrev pub Filled : World → List ℕ → Result ℕ Refusal → List ℕ → Type 0
 Filled w before (Ok n) after =
     (n ≡ tally (count w) (λ t. accepted w (start t)))
-    × ((t : ℕ) → times t (take n after) ≡ cond (accepted w (start t)) 1 0)
+    × Startable w (take n after)
     × (drop n after ≡ drop n before)
 Filled w before (Err why) after = after ≡ before
 

@@ -1,10 +1,9 @@
 -- Histories that run by the rules.
 -- Assumes nothing.
 use mathlib.Core.Path.{_≡_}
-use mathlib.Core.Bool.{Bool, true, false, cond}
+use mathlib.Core.Bool.{Bool, true, false}
 use mathlib.Core.List.{List, [], _∷_, _++_}
-use Prim.Native.Nat.{ℕ, suc}
-use lib.Dec.{eqb}
+use Prim.Native.Nat.{ℕ}
 use lib.ListN.{getD}
 use Rattle.order.specs.declared.deed.Deed.the-variants.{Reading, Writing, Updating}
 use Rattle.order.specs.Questions.{
@@ -22,9 +21,9 @@ use Rattle.order.specs.Questions.{
   all-yes,
   first-number,
   questions,
-  accepted,
   after,
 }
+use Rattle.order.specs.Ready.{Startable}
 use Rattle.order.specs.Tasks.{World, count}
 use Rattle.promise.specs.Program.{Reply, done, made, value, listed, Entry, took, refused, do-step}
 
@@ -55,15 +54,6 @@ abbrev pub world : {V : Type 0} → World → List (Entry V) → World
 world w [] = w
 world w (refused k was-open n ∷ h) = world w h
 world w (took k given reply ∷ h) = world (after w k) h
-
--- how often t stands in a list
-abbrev pub times : ℕ → List ℕ → ℕ
-times t [] = 0
-times t (x ∷ xs) = cond (eqb x t) (suc (times t xs)) (times t xs)
-
--- a list has each task once whose start would be accepted, and nothing else
-abbrev pub Startable : World → List ℕ → Type 0
-Startable w l = (t : ℕ) → times t l ≡ cond (accepted w (start t)) 1 0
 
 module _ {V : Type 0} (rest : V) (updated : V → V → V) where
   -- a taken call's reply is the one that the rules give, with the cells s before it
