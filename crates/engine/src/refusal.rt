@@ -16,7 +16,7 @@ impl Refusal {
         ensures { λ r. ⌜ r ≡ number-of self ⌝ }
     {
         match self {
-            Refusal::Rule(why) => why.number(),
+            Refusal::Rule(rule) => rule.number(),
             Refusal::Store(_) => 17,
         }
     }
