@@ -1,0 +1,2 @@
+// The answers of an engine, written as lines of text.
+pub mod line;

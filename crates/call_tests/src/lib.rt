@@ -1,0 +1,3 @@
+// Tests of call lists, at the bounds of their form.
+#[cfg(test)]
+mod tests;
