@@ -16,7 +16,7 @@ use order::access::Access;
 use std::alloc::Global;
 
 // The number as a task, a cell or a bound.
-pub fn bound(n: u64) -> Result<u16, Unread>
+pub(crate) fn bound(n: u64) -> Result<u16, Unread>
     ensures { λ r. ⌜ ByOk r (λ x. (x ≡ n) × (n ≤ 65535)) (λ why. (why ≡ OutOfRange) × (65535 < n)) ⌝ }
 {
     if n > 65535 {
@@ -26,7 +26,7 @@ pub fn bound(n: u64) -> Result<u16, Unread>
 }
 
 // The number as a code or a number of accesses.
-pub fn code(n: u64) -> Result<u8, Unread>
+pub(crate) fn code(n: u64) -> Result<u8, Unread>
     ensures { λ r. ⌜ ByOk r (λ x. (x ≡ n) × (n ≤ 255)) (λ why. (why ≡ OutOfRange) × (255 < n)) ⌝ }
 {
     if n > 255 {
@@ -36,7 +36,7 @@ pub fn code(n: u64) -> Result<u8, Unread>
 }
 
 // The number as a flag.
-pub fn flag(n: u64) -> Result<bool, Unread>
+pub(crate) fn flag(n: u64) -> Result<bool, Unread>
     ensures { λ r. ⌜ ByOk r (λ b. (cond b 1 0 ≡ n) × (n ≤ 1)) (λ why. (why ≡ OutOfRange) × (1 < n)) ⌝ }
 {
     match n {
@@ -47,7 +47,7 @@ pub fn flag(n: u64) -> Result<bool, Unread>
 }
 
 // The numbers as accesses, three to each.
-pub fn accesses(heap: Global, numbers: &[u64]) -> Result<Vec<Access>, Stop>
+pub(crate) fn accesses(heap: Global, numbers: &[u64]) -> Result<Vec<Access>, Stop>
     requires { ⌜ length (now numbers) % 3 ≡ 0 ⌝ }
     ensures { λ r. ⌜ ByOk r (λ v. (access-numbers (vec-items v) ≡ now (numbers .entry)) × Accesses-fit (now (numbers .entry)) × (3 * length (vec-items v) ≡ length (now (numbers .entry)))) (λ s. Stopped s (λ why. (why ≡ OutOfRange) × (Accesses-fit (now (numbers .entry)) → ⊥))) ⌝ }
 {
