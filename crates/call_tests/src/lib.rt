@@ -1,3 +1,5 @@
 // Tests of call lists, at the bounds of their form.
+#![tactic(auto)]
+
 #[cfg(test)]
 mod tests;

@@ -1,4 +1,6 @@
 // The engine: the tasks of a job over any store, and its calls.
+#![tactic(auto)]
+
 mod admit;
 pub mod call;
 pub mod calls;

@@ -1,4 +1,6 @@
 // Layers that stand on any store and are stores again.
+#![tactic(auto)]
+
 pub mod allowance;
 pub mod behind;
 pub mod held;

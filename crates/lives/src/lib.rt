@@ -1,4 +1,6 @@
 // Whole lives of tasks on engines over a flat store of counts, for the benchmark to time.
+#![tactic(auto)]
+
 ghost use Rattle.std.specs.Prelude.{◌≡◌, ◌+◌, ◌*◌, ◌<◌, ◌≤◌, true, ◌⊎◌, length, is_ok, IfOk, if◌then◌else◌, None, Ok, slice_index_or, slice_set};
 ghost use Rattle.order.specs.Tasks.{count};
 ghost use Rattle.order.specs.View.{root, view};

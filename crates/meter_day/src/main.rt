@@ -1,3 +1,5 @@
+#![tactic(auto)]
+
 use elements::count::Count;
 use elements::element::Element;
 use elements::span::Span;

@@ -1,4 +1,6 @@
 // The order rules of nested tasks over cells. They know of no store.
+#![tactic(auto)]
+
 mod calls;
 mod counters;
 mod creation;

@@ -1,4 +1,6 @@
 // Why the order rules are right: program order and progress, over any values with a commuting update.
+#![tactic(auto)]
+
 ghost use Rattle.promise.specs.Promise.{Commutes, CompleteByChildren, Promise};
 ghost use Rattle.promise.specs.Worked.{WorkedCases};
 

@@ -1,4 +1,6 @@
 // Stores: cells that can be read and written.
+#![tactic(auto)]
+
 pub mod chain;
 pub mod fault;
 pub mod flat;

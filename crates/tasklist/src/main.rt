@@ -1,3 +1,5 @@
+#![tactic(auto)]
+
 use lists::list::run_list;
 use std::io;
 use std::io::Read;
