@@ -2,10 +2,10 @@ use Rattle.std.proofs.Common.{rules}
 use Rattle.kinds.specs.Kinds.{covers}
 use Rattle.kinds.proofs.kind.Kind.covers.Goals as goal
 
-pub returns-then-handed-on : goal.returns-then-handed-on
+pub returns-then-handed_on : goal.returns-then-handed_on
 unfolding covers
-returns-then-handed-on c = search rules
+returns-then-handed_on c = search rules
 
-pub returns-else-handed-on : goal.returns-else-handed-on
+pub returns-else-handed_on : goal.returns-else-handed_on
 unfolding covers
-returns-else-handed-on c = search rules
+returns-else-handed_on c = search rules
