@@ -7,29 +7,29 @@ use Rattle.order.proofs.counters.tell_ancestors.Goals as goal
 pub bounds-tasks-x-in-loop-x : goal.bounds-tasks-x-in-loop-x
 bounds-tasks-x-in-loop-x c =
     up_within c.loop-x.tasks c.args.tasks.now c.loop-x.x _ _ c.index-tasks-x.result c.loop-x.invariant c.requires.older
-    c.loop-x-test.true c.if-is-complete.ensures
+    c.loop-x-test.true c.if-is_complete.ensures
 
-pub close-child-requires : goal.close-child-requires
-close-child-requires c =
+pub close_child-requires : goal.close_child-requires
+close_child-requires c =
     up_counts c.loop-x.tasks c.args.tasks.now c.loop-x.x _ _ _ c.loop-x.invariant c.requires.older c.loop-x-test.true
-    c.if-is-complete.ensures
+    c.if-is_complete.ensures
 
 pub loop-x-smaller : goal.loop-x-smaller
 loop-x-smaller c =
     up_lower c.loop-x.tasks c.args.tasks.now c.loop-x.x _ _ c.index-tasks-x.result c.loop-x.invariant c.requires.older
-    c.loop-x-test.true c.if-is-complete.ensures
+    c.loop-x-test.true c.if-is_complete.ensures
 
 pub loop-x-preserved : goal.loop-x-preserved
 loop-x-preserved c =
     up_told c.loop-x.tasks c.args.tasks.now c.loop-x.x _ _ _ c.loop-x.invariant c.requires.older c.loop-x-test.true
-    c.if-is-complete.ensures c.close-child.new.self c.close-child.ensures
+    c.if-is_complete.ensures c.close_child.new.self c.close_child.ensures
 
-pub returns-else-is-complete : goal.returns-else-is-complete
-returns-else-is-complete c =
+pub returns-else-is_complete : goal.returns-else-is_complete
+returns-else-is_complete c =
     record {
       kept = c.loop-x.invariant.2;
       counted =
           all_told c.loop-x.tasks c.loop-x.x
-          (inr (get_or-map complete c.loop-x.tasks c.loop-x.x _ _ c.loop-x.invariant.0 ∙ sym c.if-is-complete.ensures))
+          (inr (get_or-map complete c.loop-x.tasks c.loop-x.x _ _ c.loop-x.invariant.0 ∙ sym c.if-is_complete.ensures))
           c.loop-x.invariant.1;
     }

@@ -9,7 +9,7 @@ loop-access-preserved c =
     let xs = c.args.accesses.now in
     let i = c.loop-access.access-index in
     ap (nearest c.args.pos (drop (i + 1) xs))
-    (c.better-bound-best.ensures ∙ ap (better c.args.pos (get_or xs i no_access).hi) c.better-bound.ensures)
+    (c.better_bound-best.ensures ∙ ap (better c.args.pos (get_or xs i no_access).hi) c.better_bound.ensures)
     ∙ (sym (at_drop_more (λ l. nearest c.args.pos l c.loop-access.best) xs i no_access c.loop-access-test.true) ∙ c.loop-access.invariant)
 
 pub returns : goal.returns

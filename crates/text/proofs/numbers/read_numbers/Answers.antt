@@ -6,24 +6,24 @@ use Rattle.text.specs.declared.unread.Unread.TheVariants.{NoLineEnd, UnknownLett
 use Rattle.std.proofs.lemmas.Result.{err_from_is_err_and}
 use Rattle.text.proofs.numbers.read_numbers.Goals as goal
 
-pub returns-in-default : goal.returns-in-default
-returns-in-default c =
-    ((refl, reading_bad _ _ _ c.loop-rest.invariant (eqb-false _ _ (sym c.loop-rest-test.ensures)) c.in-default.ensures), tt)
+pub returns-in_default : goal.returns-in_default
+returns-in_default c =
+    ((refl, reading_bad _ _ _ c.loop-rest.invariant (eqb-false _ _ (sym c.loop-rest-test.ensures)) c.in_default.ensures), tt)
 
 pub loop-rest-smaller : goal.loop-rest-smaller
 loop-rest-smaller c = took_shorter _ _ _ c.in-Some.ensures
 
 pub loop-rest-preserved : goal.loop-rest-preserved
 loop-rest-preserved c =
-    subst (λ l. ReadingOn c.args.bytes.now l c.in-Some.more.now) (sym c.in-ok-push.ensures.items)
+    subst (λ l. ReadingOn c.args.bytes.now l c.in-Some.more.now) (sym c.in_ok-push.ensures.items)
     (reading_more _ _ _ _ _ c.loop-rest.invariant c.in-Some.ensures)
 
 pub returns : goal.returns
 returns c = reading_all _ _ _ c.loop-rest.invariant (eqb-true _ _ (sym c.loop-rest-test.ensures))
 
-pub returns-in-err-push : goal.returns-in-err-push
-returns-in-err-push c =
-    let p = err_from_is_err_and c.from-residual.result c.from-residual.ensures.1 in
+pub returns-in_err-push : goal.returns-in_err-push
+returns-in_err-push c =
+    let p = err_from_is_err_and c.from_residual.result c.from_residual.ensures.1 in
     rw (p.1, p.2) (
       (λ q. apart NoLineEnd BadNumbers (λ e. omega (arith, e)) q.0, λ q. apart UnknownLetter BadNumbers (λ e. omega (arith, e)) q.0),
       reading_some _ _ _ _ _ c.loop-rest.invariant c.in-Some.ensures,

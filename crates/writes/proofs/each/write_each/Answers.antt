@@ -3,7 +3,7 @@ use Rattle.writes.proofs.Goes.{went_more}
 use Rattle.writes.proofs.each.write_each.Goals as goal
 
 pub loop-turn-preserved : goal.loop-turn-preserved
-loop-turn-preserved g c = went_more _ _ _ _ _ _ _ _ _ _ _ (omega arith) c.take-turn.ensures.cell c.take-turn.ensures.value c.take-turn.ensures.wrote c.loop-turn.invariant
+loop-turn-preserved g c = went_more _ _ _ _ _ _ _ _ _ _ _ (omega arith) c.take_turn.ensures.cell c.take_turn.ensures.value c.take_turn.ensures.wrote c.loop-turn.invariant
 
 pub returns : goal.returns
 returns g c =

@@ -14,7 +14,7 @@ returns g c =
       answered =
           went_answered _ _ _ gauge_of after_write moves pile_verdict
           (λ s i. ap (λ n. allowance_verdict n s.left i (existing n i (held_verdict s.below.held (chain_verdict (gauge_of s).cells (gauge_of s).used (gauge_of s).records) i))) (pile_cells g.E.Element.rest s))
-          _ _ _ c.write-each.ensures.went;
-      after = went_changed _ _ _ gauge_of after_write moves _ _ _ c.write-each.ensures.went;
-      asked = c.write-each.ensures.asked;
+          _ _ _ c.write_each.ensures.went;
+      after = went_changed _ _ _ gauge_of after_write moves _ _ _ c.write_each.ensures.went;
+      asked = c.write_each.ensures.asked;
     }

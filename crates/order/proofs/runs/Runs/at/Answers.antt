@@ -6,21 +6,21 @@ use Rattle.order.proofs.Stretched.{blank}
 use Rattle.order.proofs.runs.Runs.at.Goals as goal
 
 pub loop-run-init : goal.loop-run-init
-loop-run-init c = ap (λ l. held_at l c.args.cell) c.as-slice-run-items.ensures
+loop-run-init c = ap (λ l. held_at l c.args.cell) c.as_slice-run-items.ensures
 
 pub returns-then-contains : goal.returns-then-contains
 returns-then-contains c =
     sym (cond-true _ _ _ (sym c.if-contains.ensures))
-    ∙ (sym (at_drop_more (λ l. held_at l c.args.cell) c.as-slice-run-items.result.now c.loop-run.run_index blank c.loop-run-test.true)
+    ∙ (sym (at_drop_more (λ l. held_at l c.args.cell) c.as_slice-run-items.result.now c.loop-run.run-index blank c.loop-run-test.true)
     ∙ c.loop-run.invariant)
 
 pub loop-run-preserved : goal.loop-run-preserved
 loop-run-preserved c =
     sym (cond-false _ _ _ (sym c.if-contains.ensures))
-    ∙ (sym (at_drop_more (λ l. held_at l c.args.cell) c.as-slice-run-items.result.now c.loop-run.run_index blank c.loop-run-test.true)
+    ∙ (sym (at_drop_more (λ l. held_at l c.args.cell) c.as_slice-run-items.result.now c.loop-run.run-index blank c.loop-run-test.true)
     ∙ c.loop-run.invariant)
 
 pub returns : goal.returns
 returns c =
-    sym (at_drop_all (λ l. held_at l c.args.cell) c.as-slice-run-items.result.now c.loop-run.run_index c.loop-run-test.false)
+    sym (at_drop_all (λ l. held_at l c.args.cell) c.as_slice-run-items.result.now c.loop-run.run-index c.loop-run-test.false)
     ∙ c.loop-run.invariant

@@ -14,7 +14,7 @@ use Rattle.order.proofs.runs.Runs.covers_run.Goals.{
 
 pub loop-run-preserved : goal.loop-run-preserved
 loop-run-preserved c =
-    let x = get_or c.as-slice-run-items.result.now c.loop-run.run_index blank in
+    let x = get_or c.as_slice-run-items.result.now c.loop-run.run-index blank in
     let p : c.if-contains.pos ≡ step_on (λ h. covered_by h (Some c.args.child.now.holding)) x c.loop-run.pos = elim c.if-contains.branch [
       | then-contains+then-covers w ↦
           w.pos-is ∙ sym (steps (λ h. covered_by h (Some c.args.child.now.holding)) x c.loop-run.pos (sym w.if-contains.ensures) (sym w.if-covers.ensures))
@@ -26,14 +26,14 @@ loop-run-preserved c =
                 w.pos-is ∙ sym (stays_away (λ h. covered_by h (Some c.args.child.now.holding)) x c.loop-run.pos (sym v.if-contains.ensures))
           ]
     ] in
-    ap (walk (λ h. covered_by h (Some c.args.child.now.holding)) (drop (c.loop-run.run_index + 1) c.as-slice-run-items.result.now)) p
-    ∙ (sym (at_drop_more (λ l. walk (λ h. covered_by h (Some c.args.child.now.holding)) l c.loop-run.pos) c.as-slice-run-items.result.now c.loop-run.run_index blank c.loop-run-test.true)
+    ap (walk (λ h. covered_by h (Some c.args.child.now.holding)) (drop (c.loop-run.run-index + 1) c.as_slice-run-items.result.now)) p
+    ∙ (sym (at_drop_more (λ l. walk (λ h. covered_by h (Some c.args.child.now.holding)) l c.loop-run.pos) c.as_slice-run-items.result.now c.loop-run.run-index blank c.loop-run-test.true)
     ∙ c.loop-run.invariant)
 
 pub returns : goal.returns
 returns c =
     let e =
-    sym (at_drop_all (λ l. walk (λ h. covered_by h (Some c.args.child.now.holding)) l c.loop-run.pos) c.as-slice-run-items.result.now c.loop-run.run_index c.loop-run-test.false)
+    sym (at_drop_all (λ l. walk (λ h. covered_by h (Some c.args.child.now.holding)) l c.loop-run.pos) c.as_slice-run-items.result.now c.loop-run.run-index c.loop-run-test.false)
     ∙ c.loop-run.invariant in
     ap (leb c.args.child.now.hi) e
     ∙ region_walked (λ h. covered_by h (Some c.args.child.now.holding)) refl (in_use c.args.self.now) c.args.child.now.lo c.args.child.now.hi c.args.child.now.hi c.args.self.now.sorted (omega arith)

@@ -20,7 +20,7 @@ returns-then-eq c n h =
     sym
     (
     one_fails (λ r. not (is_commutative (Some r.holding)))
-    c.as-slice-run-items.result.now (in_use c.args.self.now) c.loop-run.run_index c.loop-run.invariant c.loop-run-test.true
+    c.as_slice-run-items.result.now (in_use c.args.self.now) c.loop-run.run-index c.loop-run.invariant c.loop-run-test.true
     (ap (λ k. not (same k Commutative)) c.if-eq.ensures)
     )
     ∙ runs_plain is_commutative refl (in_use c.args.self.now) n c.args.self.now.sorted h
@@ -29,7 +29,7 @@ returns-then-eq c n h =
 pub loop-run-preserved : goal.loop-run-preserved
 loop-run-preserved c =
     one_passes (λ r. not (is_commutative (Some r.holding)))
-    c.as-slice-run-items.result.now (in_use c.args.self.now) c.loop-run.run_index c.loop-run.invariant c.loop-run-test.true
+    c.as_slice-run-items.result.now (in_use c.args.self.now) c.loop-run.run-index c.loop-run.invariant c.loop-run-test.true
     (other_kind _ c.if-eq.ensures)
 
 pub returns : goal.returns
@@ -38,6 +38,6 @@ returns c n h =
     (
     sym
     (all_pass (λ r. not (is_commutative (Some r.holding)))
-    c.as-slice-run-items.result.now (in_use c.args.self.now) c.loop-run.run_index c.loop-run.invariant c.loop-run-test.false)
+    c.as_slice-run-items.result.now (in_use c.args.self.now) c.loop-run.run-index c.loop-run.invariant c.loop-run-test.false)
     ∙ runs_plain is_commutative refl (in_use c.args.self.now) n c.args.self.now.sorted h
     )

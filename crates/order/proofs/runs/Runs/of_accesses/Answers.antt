@@ -24,18 +24,18 @@ append-requires c =
     let i = c.loop-next.invariant.0 in
     record { some = next_over c.loop-next.pos c.in-Some.next c.args.accesses.now p; behind = c.loop-next.invariant.1; room = omega arith }
 
-pub loop-next-smaller-in-Some-asked-at : goal.loop-next-smaller-in-Some-asked-at
-loop-next-smaller-in-Some-asked-at c =
+pub loop-next-smaller-in-Some-asked_at : goal.loop-next-smaller-in-Some-asked_at
+loop-next-smaller-in-Some-asked_at c =
     let k = next_passes c.loop-next.pos c.in-Some.next c.args.accesses.now (sym c.in-Some.ensures) in
     omega arith
 
-pub loop-next-preserved-in-Some-asked-at : goal.loop-next-preserved-in-Some-asked-at
-loop-next-preserved-in-Some-asked-at c =
+pub loop-next-preserved-in-Some-asked_at : goal.loop-next-preserved-in-Some-asked_at
+loop-next-preserved-in-Some-asked_at c =
     let xs = c.args.accesses.now in
     let pos = c.loop-next.pos in
     let next = c.in-Some.next in
     let out = in_use c.loop-next.out in
-    let run : Run = record { lo = pos; hi = next; holding = c.in-Some-asked-at.holding } in
+    let run : Run = record { lo = pos; hi = next; holding = c.in-Some-asked_at.holding } in
     let p = sym c.in-Some.ensures in
     let some = next_over pos next xs p in
     let k = next_passes pos next xs p in
@@ -48,7 +48,7 @@ loop-next-preserved-in-Some-asked-at c =
       (λ d.
           ap (λ ys. held_at ys d) e
           ∙ (held_appended run some out d c.loop-next.out.sorted c.loop-next.invariant.1
-          ∙ (ap (λ o. cond (within pos next d) o (held_at out d)) c.in-Some-asked-at.ensures
+          ∙ (ap (λ o. cond (within pos next d) o (held_at out d)) c.in-Some-asked_at.ensures
           ∙ (ap (cond (within pos next d) _) (c.loop-next.invariant.2 d) ∙ swept_more pos next d xs p)))),
     )
 
@@ -68,12 +68,12 @@ loop-next-preserved c =
     let i = c.loop-next.invariant.0 in (
       omega arith,
       end_later pos next (in_use c.loop-next.out) (omega arith) c.loop-next.invariant.1,
-      (λ d. c.loop-next.invariant.2 d ∙ swept_none pos next d xs p (sym c.in-default-asked-at.ensures)),
+      (λ d. c.loop-next.invariant.2 d ∙ swept_none pos next d xs p (sym c.in_default-asked_at.ensures)),
     )
 
 pub returns : goal.returns
 returns c =
     let xs = c.args.accesses.now in
-    let p = sym c.in-default.ensures in
+    let p = sym c.in_default.ensures in
     let all = λ (d : ℕ). c.loop-next.invariant.2 d ∙ swept_all c.loop-next.pos d xs p in
     record { held = all; reach = λ w l. reach_swept w xs (in_use c.loop-next.out) c.loop-next.out.sorted all l }

@@ -14,19 +14,19 @@ returns-then-run c =
     let f = c.args.self.now.few in
     record { room = sym (ap (λ l. leb (length l) 16) e ∙ le-leb _ 16 (omega arith)); runs = λ _. sym e }
 
-pub returns-then-as-slice-ge-MOST-RUNS : goal.returns-then-as-slice-ge-MOST-RUNS
-returns-then-as-slice-ge-MOST-RUNS c =
+pub returns-then-as_slice-ge-MOST_RUNS : goal.returns-then-as_slice-ge-MOST_RUNS
+returns-then-as_slice-ge-MOST_RUNS c =
     let e = ap (λ l. in_use c.args.self.now ++ l) (any_one c.args.run c.if-run.false) in
     let a = length-append (in_use c.args.self.now) (c.args.run ∷ []) in
-    let b = ap length c.as-slice.ensures in
+    let b = ap length c.as_slice.ensures in
     record { room = sym (ap (λ l. leb (length l) 16) e ∙ lt-leb _ 16 (omega arith)); runs = λ x. clash x }
 
-pub invariant-of-self : goal.invariant-of-self
-invariant-of-self c =
+pub invariant_of-self : goal.invariant_of-self
+invariant_of-self c =
     let h : c.args.self.now.len < length c.args.self.now.list = search rules in
     let e = ap (λ l. in_use c.args.self.now ++ l) (any_one c.args.run c.if-run.false) in
     let m = take_more_set c.args.self.now.list c.args.self.now.len c.args.run h in
-    (omega arith, (ap longest (m ∙ sym e) ∙ c.requires, tt))
+    record { few = omega arith; sorted = ap longest (m ∙ sym e) ∙ c.requires }
 
 pub returns : goal.returns
 returns c =
@@ -34,5 +34,5 @@ returns c =
     let e = ap (λ l. in_use c.args.self.now ++ l) (any_one c.args.run c.if-run.false) in
     let m = take_more_set c.args.self.now.list c.args.self.now.len c.args.run h in
     let a = length-append (in_use c.args.self.now) (c.args.run ∷ []) in
-    let b = ap length c.as-slice.ensures in
+    let b = ap length c.as_slice.ensures in
     record { room = sym (ap (λ l. leb (length l) 16) e ∙ le-leb _ 16 (omega arith)); runs = λ _. m ∙ sym e }

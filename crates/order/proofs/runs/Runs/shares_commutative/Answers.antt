@@ -5,15 +5,15 @@ use Rattle.order.proofs.Stretched.{over, one_fails, one_passes, all_pass, runs_e
 use Rattle.order.specs.Holdings.{held, in_use}
 use Rattle.order.proofs.runs.Runs.shares_commutative.Goals as goal
 
-pub returns-then-shares-commutative : goal.returns-then-shares-commutative
-returns-then-shares-commutative c n h =
+pub returns-then-shares_commutative : goal.returns-then-shares_commutative
+returns-then-shares_commutative c n h =
     ap not
     (
     sym
     (
     one_fails (over (λ h c'. not (is_commutative h && is_commutative (held c.args.other.now c'))))
-    c.as-slice-run-items.result.now (in_use c.args.self.now) c.loop-run.run_index c.loop-run.invariant c.loop-run-test.true
-    (not-true _ (sym c.if-shares-commutative.ensures))
+    c.as_slice-run-items.result.now (in_use c.args.self.now) c.loop-run.run-index c.loop-run.invariant c.loop-run-test.true
+    (not-true _ (sym c.if-shares_commutative.ensures))
     )
     ∙ runs_each (λ h c'. not (is_commutative h && is_commutative (held c.args.other.now c'))) (λ c'. refl) (in_use c.args.self.now) n c.args.self.now.sorted h
     )
@@ -21,8 +21,8 @@ returns-then-shares-commutative c n h =
 pub loop-run-preserved : goal.loop-run-preserved
 loop-run-preserved c =
     one_passes (over (λ h c'. not (is_commutative h && is_commutative (held c.args.other.now c'))))
-    c.as-slice-run-items.result.now (in_use c.args.self.now) c.loop-run.run_index c.loop-run.invariant c.loop-run-test.true
-    (not-false _ (sym c.if-shares-commutative.ensures))
+    c.as_slice-run-items.result.now (in_use c.args.self.now) c.loop-run.run-index c.loop-run.invariant c.loop-run-test.true
+    (not-false _ (sym c.if-shares_commutative.ensures))
 
 pub returns : goal.returns
 returns c n h =
@@ -30,6 +30,6 @@ returns c n h =
     (
     sym
     (all_pass (over (λ h c'. not (is_commutative h && is_commutative (held c.args.other.now c'))))
-    c.as-slice-run-items.result.now (in_use c.args.self.now) c.loop-run.run_index c.loop-run.invariant c.loop-run-test.false)
+    c.as_slice-run-items.result.now (in_use c.args.self.now) c.loop-run.run-index c.loop-run.invariant c.loop-run-test.false)
     ∙ runs_each (λ h c'. not (is_commutative h && is_commutative (held c.args.other.now c'))) (λ c'. refl) (in_use c.args.self.now) n c.args.self.now.sorted h
     )

@@ -9,33 +9,33 @@ use Rattle.order.proofs.Cutting.{take_short, longest_front, longest_left, held_l
 use Rattle.order.proofs.Counting.{count_left}
 use Rattle.order.proofs.runs.Runs.without.Goals as goal
 
-pub push-left-requires : goal.push-left-requires
-push-left-requires c =
+pub push_left-requires : goal.push_left-requires
+push_left-requires c =
     let e =
-    one_left c.args.lo c.args.hi (in_use c.loop-run.out) c.as-slice-run-items.result.now (all_left c.args.lo c.args.hi (in_use c.args.self.now))
-    c.loop-run.run_index c.loop-run.invariant c.loop-run-test.true in
+    one_left c.args.lo c.args.hi (in_use c.loop-run.out) c.as_slice-run-items.result.now (all_left c.args.lo c.args.hi (in_use c.args.self.now))
+    c.loop-run.run-index c.loop-run.invariant c.loop-run-test.true in
     longest_front
-    (in_use c.loop-run.out ++ left c.args.lo c.args.hi (get_or c.as-slice-run-items.result.now c.loop-run.run_index blank))
-    (all_left c.args.lo c.args.hi (drop (c.loop-run.run_index + 1) c.as-slice-run-items.result.now))
+    (in_use c.loop-run.out ++ left c.args.lo c.args.hi (get_or c.as_slice-run-items.result.now c.loop-run.run-index blank))
+    (all_left c.args.lo c.args.hi (drop (c.loop-run.run-index + 1) c.as_slice-run-items.result.now))
     (ap longest e ∙ longest_left c.args.lo c.args.hi (in_use c.args.self.now) c.requires c.args.self.now.sorted)
 
-pub returns-then-not-push-left : goal.returns-then-not-push-left
-returns-then-not-push-left c n h =
+pub returns-then-not-push_left : goal.returns-then-not-push_left
+returns-then-not-push_left c n h =
     let e =
-    one_left c.args.lo c.args.hi (in_use c.loop-run.out) c.as-slice-run-items.result.now (all_left c.args.lo c.args.hi (in_use c.args.self.now))
-    c.loop-run.run_index c.loop-run.invariant c.loop-run-test.true in
+    one_left c.args.lo c.args.hi (in_use c.loop-run.out) c.as_slice-run-items.result.now (all_left c.args.lo c.args.hi (in_use c.args.self.now))
+    c.loop-run.run-index c.loop-run.invariant c.loop-run-test.true in
     ap (λ k. leb k 16)
     (count_left c.args.lo c.args.hi n (in_use c.args.self.now) c.requires c.args.self.now.sorted h ∙ ap length (sym e))
     ∙ too_many 16
-    (in_use c.loop-run.out ++ left c.args.lo c.args.hi (get_or c.as-slice-run-items.result.now c.loop-run.run_index blank))
-    (all_left c.args.lo c.args.hi (drop (c.loop-run.run_index + 1) c.as-slice-run-items.result.now))
-    c.if-not-push-left.ensures.room
+    (in_use c.loop-run.out ++ left c.args.lo c.args.hi (get_or c.as_slice-run-items.result.now c.loop-run.run-index blank))
+    (all_left c.args.lo c.args.hi (drop (c.loop-run.run-index + 1) c.as_slice-run-items.result.now))
+    c.if-not-push_left.ensures.room
 
 pub loop-run-preserved : goal.loop-run-preserved
 loop-run-preserved c =
-    next_left c.args.lo c.args.hi (in_use c.loop-run.out) (in_use c.push-left.new.self) c.as-slice-run-items.result.now
-    (all_left c.args.lo c.args.hi (in_use c.args.self.now)) c.loop-run.run_index c.loop-run.invariant c.loop-run-test.true
-    (c.push-left.ensures.runs c.if-not-push-left.false)
+    next_left c.args.lo c.args.hi (in_use c.loop-run.out) (in_use c.push_left.new.self) c.as_slice-run-items.result.now
+    (all_left c.args.lo c.args.hi (in_use c.args.self.now)) c.loop-run.run-index c.loop-run.invariant c.loop-run-test.true
+    (c.push_left.ensures.runs c.if-not-push_left.false)
 
 pub returns : goal.returns
 returns c n h =
@@ -43,7 +43,7 @@ returns c n h =
     let all_done =
     sym (append-nil (in_use c.loop-run.out))
     ∙ (ap (λ l. in_use c.loop-run.out ++ l)
-    (sym (at_drop_all (all_left c.args.lo c.args.hi) c.as-slice-run-items.result.now c.loop-run.run_index c.loop-run-test.false))
+    (sym (at_drop_all (all_left c.args.lo c.args.hi) c.as_slice-run-items.result.now c.loop-run.run-index c.loop-run-test.false))
     ∙ c.loop-run.invariant) in
     let s = take_short c.loop-run.out.len c.loop-run.out.list in
     let f = c.loop-run.out.few in (

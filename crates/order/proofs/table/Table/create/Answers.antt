@@ -10,51 +10,48 @@ use Rattle.order.proofs.Answering.{refused_did, all_accepted}
 use Rattle.order.proofs.Viewed.{count_of}
 use Rattle.order.proofs.table.Table.create.Goals as goal
 
-pub returns-in-err-runs : goal.returns-in-err-runs
-returns-in-err-runs c =
-    let p = err_from_is_err_and c.from-residual.result c.from-residual.ensures.1 in
+pub returns-in_err-runs : goal.returns-in_err-runs
+returns-in_err-runs c =
+    let p = err_from_is_err_and c.from_residual.result c.from_residual.ensures.1 in
     record {
       did =
-          refused_did (view c.args.self.now) (create c.args.parent c.args.waits c.args.accesses.now) c.from-residual.result p.0
-          c.in-err-runs.field-0.0 p.1 p.2 c.in-err-runs.ensures;
-      number = IfOk-from_err c.from-residual.result _ c.from-residual.ensures.0;
+          refused_did (view c.args.self.now) (create c.args.parent c.args.waits c.args.accesses.now) c.from_residual.result p.0
+          c.in_err-runs.field-0.0 p.1 p.2 c.in_err-runs.ensures;
+      number = IfOk-from_err c.from_residual.result _ c.from_residual.ensures.0;
     }
 
-pub index-mut-requires : goal.index-mut-requires
-index-mut-requires c = let h = parent_within c.args.self.now.cells c.args.self.now.tasks.items c.args.self.now.sound c.args.parent c.args.accesses.now c.in-ok-runs.ensures.0 in let n = c.args.self.now.tasks.ok.0 in omega arith
+pub index_mut-requires : goal.index_mut-requires
+index_mut-requires c = let h = parent_within c.args.self.now.cells c.args.self.now.tasks.items c.args.self.now.sound c.args.parent c.args.accesses.now c.in_ok-runs.ensures.0 in let n = c.args.self.now.tasks.ok.0 in omega arith
 
-pub open-child-requires : goal.open-child-requires
-open-child-requires c = few_open c.args.self.now.cells c.args.self.now.tasks.items c.args.self.now.sound c.args.parent c.args.accesses.now c.in-ok-runs.ensures.0 c.index-mut.result.now c.index-mut.ensures.value
+pub open_child-requires : goal.open_child-requires
+open_child-requires c = few_open c.args.self.now.cells c.args.self.now.tasks.items c.args.self.now.sound c.args.parent c.args.accesses.now c.in_ok-runs.ensures.0 c.index_mut.result.now c.index_mut.ensures.value
 
-pub push-reserved-requires : goal.push-reserved-requires
-push-reserved-requires c =
-    let h = room_left c.args.self.now.cells c.args.self.now.tasks.items c.args.self.now.sound c.args.parent c.args.accesses.now c.in-ok-runs.ensures.0 in let n = c.args.self.now.tasks.ok.0 in let r = c.args.self.now.room in omega arith
+pub push_reserved-requires : goal.push_reserved-requires
+push_reserved-requires c =
+    let h = room_left c.args.self.now.cells c.args.self.now.tasks.items c.args.self.now.sound c.args.parent c.args.accesses.now c.in_ok-runs.ensures.0 in let n = c.args.self.now.tasks.ok.0 in let r = c.args.self.now.room in omega arith
 
-pub invariant-of-self : goal.invariant-of-self
-invariant-of-self c = (
-  let r = c.args.self.now.room in let e = c.push-reserved.ensures.capacity in omega arith,
-  (
-    subst (Sound c.args.self.now.cells) (sym c.push-reserved.ensures.items)
-        (
-        create_sound c.args.self.now.cells c.args.self.now.tasks.items c.args.self.now.sound c.args.parent c.args.accesses.now c.in-ok-runs.ensures.0
-        c.index-mut.result.now c.index-mut.ensures.value c.open_child.new.self c.open_child.ensures
-        (record { parent = c.args.parent; waits = c.args.waits; state = Created; «open» = 0; runs = c.in-ok-runs.runs }) refl refl refl
-        c.in-ok-runs.ensures.1.1
-        ),
-    tt,
-  ),
-)
+pub invariant_of-self : goal.invariant_of-self
+invariant_of-self c = record {
+  room = let r = c.args.self.now.room in let e = c.push_reserved.ensures.capacity in omega arith;
+  sound = subst (Sound c.args.self.now.cells) (sym c.push_reserved.ensures.items)
+      (
+      create_sound c.args.self.now.cells c.args.self.now.tasks.items c.args.self.now.sound c.args.parent c.args.accesses.now c.in_ok-runs.ensures.0
+      c.index_mut.result.now c.index_mut.ensures.value c.open_child.new.self c.open_child.ensures
+      (record { parent = c.args.parent; waits = c.args.waits; state = Created; «open» = 0; runs = c.in_ok-runs.runs }) refl refl refl
+      c.in_ok-runs.ensures.1.1
+      );
+}
 
 pub returns : goal.returns
 returns c =
     record {
       did = (
-        all_accepted (view c.args.self.now) (create c.args.parent c.args.waits c.args.accesses.now) c.in-ok-runs.ensures.0,
-        ap (world_of c.args.self.now.cells) c.push-reserved.ensures.items
-            ∙ create_world c.args.self.now.cells c.args.self.now.tasks.items c.args.self.now.sound c.args.parent c.args.accesses.now c.in-ok-runs.ensures.0
-            c.index-mut.result.now c.index-mut.ensures.value c.open_child.new.self c.open_child.ensures
-            (record { parent = c.args.parent; waits = c.args.waits; state = Created; «open» = 0; runs = c.in-ok-runs.runs }) refl refl refl
-            c.args.waits refl c.in-ok-runs.ensures.1.0,
+        all_accepted (view c.args.self.now) (create c.args.parent c.args.waits c.args.accesses.now) c.in_ok-runs.ensures.0,
+        ap (world_of c.args.self.now.cells) c.push_reserved.ensures.items
+            ∙ create_world c.args.self.now.cells c.args.self.now.tasks.items c.args.self.now.sound c.args.parent c.args.accesses.now c.in_ok-runs.ensures.0
+            c.index_mut.result.now c.index_mut.ensures.value c.open_child.new.self c.open_child.ensures
+            (record { parent = c.args.parent; waits = c.args.waits; state = Created; «open» = 0; runs = c.in_ok-runs.runs }) refl refl refl
+            c.args.waits refl c.in_ok-runs.ensures.1.0,
       );
       number = let e = count_of c.args.self.now.cells c.args.self.now.tasks.items c.args.self.now.sound.0 in let n = c.args.self.now.tasks.ok.0 in let l = c.len-number.ensures in omega arith;
     }

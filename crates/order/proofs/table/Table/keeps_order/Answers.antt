@@ -10,6 +10,6 @@ returns-then-not-bars c =
 
 pub returns-else-not-bars : goal.returns-else-not-bars
 returns-else-not-bars c =
-    right_decides c.bars.result c.is-earlier.result c.if-not-bars.false
+    right_decides c.bars.result c.is_earlier.result c.if-not-bars.false
     ∙ keeps_order_is c.args.self.now.cells (vec_items c.args.self.now.tasks) c.args.self.now.sound c.args.t c.args.u c.index-2.result.now
-    c.index.result.now c.requires.0 c.requires.1 c.index-2.ensures c.index.ensures c.bars.result c.is-earlier.result c.bars.ensures c.is-earlier.ensures
+    c.index.result.now c.requires.0 c.requires.1 c.index-2.ensures c.index.ensures c.bars.result c.is_earlier.result c.bars.ensures c.is_earlier.ensures

@@ -20,120 +20,120 @@ use Rattle.order.proofs.Creating.{
 use Rattle.order.proofs.Turning.{running_within}
 use Rattle.order.proofs.table.Table.may_create.Goals as goal
 
-pub returns-in-err-running : goal.returns-in-err-running
-returns-in-err-running c =
-    let p = err_from_is_err_and c.from-residual.result c.from-residual.ensures.1 in
-    refused_runs c.args.self.now.cells (view c.args.self.now) c.args.parent c.args.accesses.now c.from-residual.result p.0 c.in-err-running.field-0.0 p.1 p.2
-    (parent_refused (view c.args.self.now) c.args.parent c.args.accesses.now c.in-err-running.field-0.0 c.in-err-running.ensures)
+pub returns-in_err-running : goal.returns-in_err-running
+returns-in_err-running c =
+    let p = err_from_is_err_and c.from_residual.result c.from_residual.ensures.1 in
+    refused_runs c.args.self.now.cells (view c.args.self.now) c.args.parent c.args.accesses.now c.from_residual.result p.0 c.in_err-running.field-0.0 p.1 p.2
+    (parent_refused (view c.args.self.now) c.args.parent c.args.accesses.now c.in_err-running.field-0.0 c.in_err-running.ensures)
 
-pub returns-then-len-ge-MOST-TASKS : goal.returns-then-len-ge-MOST-TASKS
-returns-then-len-ge-MOST-TASKS c =
-    full (view c.args.self.now) c.args.parent c.args.accesses.now c.in-ok-running.ensures
+pub returns-then-len-ge-MOST_TASKS : goal.returns-then-len-ge-MOST_TASKS
+returns-then-len-ge-MOST_TASKS c =
+    full (view c.args.self.now) c.args.parent c.args.accesses.now c.in_ok-running.ensures
     (
     full_read c.args.self.now.cells c.args.self.now.tasks.items c.args.self.now.sound
-    (let h = c.if-len-ge-MOST-TASKS.true in let e = c.len.ensures in let n = c.args.self.now.tasks.ok.0 in omega arith)
+    (let h = c.if-len-ge-MOST_TASKS.true in let e = c.len.ensures in let n = c.args.self.now.tasks.ok.0 in omega arith)
     )
 
-pub returns-then-accesses-gt-MOST-ACCESSES : goal.returns-then-accesses-gt-MOST-ACCESSES
-returns-then-accesses-gt-MOST-ACCESSES c =
-    many (view c.args.self.now) c.args.parent c.args.accesses.now c.in-ok-running.ensures
+pub returns-then-accesses-gt-MOST_ACCESSES : goal.returns-then-accesses-gt-MOST_ACCESSES
+returns-then-accesses-gt-MOST_ACCESSES c =
+    many (view c.args.self.now) c.args.parent c.args.accesses.now c.in_ok-running.ensures
     (
     room_read c.args.self.now.cells c.args.self.now.tasks.items c.args.self.now.sound
-    (let h = c.if-len-ge-MOST-TASKS.false in let e = c.len.ensures in let n = c.args.self.now.tasks.ok.0 in omega arith)
+    (let h = c.if-len-ge-MOST_TASKS.false in let e = c.len.ensures in let n = c.args.self.now.tasks.ok.0 in omega arith)
     )
-    (lt-leb (length c.args.accesses.now) 8 c.if-accesses-gt-MOST-ACCESSES.true)
+    (lt-leb (length c.args.accesses.now) 8 c.if-accesses-gt-MOST_ACCESSES.true)
 
-pub returns-then-not-has-regions : goal.returns-then-not-has-regions
-returns-then-not-has-regions c =
-    bad_region (view c.args.self.now) c.args.parent c.args.accesses.now c.in-ok-running.ensures
+pub returns-then-not-has_regions : goal.returns-then-not-has_regions
+returns-then-not-has_regions c =
+    bad_region (view c.args.self.now) c.args.parent c.args.accesses.now c.in_ok-running.ensures
     (
     room_read c.args.self.now.cells c.args.self.now.tasks.items c.args.self.now.sound
-    (let h = c.if-len-ge-MOST-TASKS.false in let e = c.len.ensures in let n = c.args.self.now.tasks.ok.0 in omega arith)
+    (let h = c.if-len-ge-MOST_TASKS.false in let e = c.len.ensures in let n = c.args.self.now.tasks.ok.0 in omega arith)
     )
-    (le-leb (length c.args.accesses.now) 8 c.if-accesses-gt-MOST-ACCESSES.false) (sym c.has-regions.ensures ∙ c.if-not-has-regions.true)
+    (le-leb (length c.args.accesses.now) 8 c.if-accesses-gt-MOST_ACCESSES.false) (sym c.has_regions.ensures ∙ c.if-not-has_regions.true)
 
-pub returns-then-not-kinds-known : goal.returns-then-not-kinds-known
-returns-then-not-kinds-known c =
-    unknown_kind (view c.args.self.now) c.args.parent c.args.accesses.now c.in-ok-running.ensures
+pub returns-then-not-kinds_known : goal.returns-then-not-kinds_known
+returns-then-not-kinds_known c =
+    unknown_kind (view c.args.self.now) c.args.parent c.args.accesses.now c.in_ok-running.ensures
     (
     room_read c.args.self.now.cells c.args.self.now.tasks.items c.args.self.now.sound
-    (let h = c.if-len-ge-MOST-TASKS.false in let e = c.len.ensures in let n = c.args.self.now.tasks.ok.0 in omega arith)
+    (let h = c.if-len-ge-MOST_TASKS.false in let e = c.len.ensures in let n = c.args.self.now.tasks.ok.0 in omega arith)
     )
-    (le-leb (length c.args.accesses.now) 8 c.if-accesses-gt-MOST-ACCESSES.false) (sym c.has-regions.ensures ∙ c.if-not-has-regions.false) (sym c.kinds_known.ensures ∙ c.if-not-kinds-known.true)
+    (le-leb (length c.args.accesses.now) 8 c.if-accesses-gt-MOST_ACCESSES.false) (sym c.has_regions.ensures ∙ c.if-not-has_regions.false) (sym c.kinds_known.ensures ∙ c.if-not-kinds_known.true)
 
 pub index-requires : goal.index-requires
 index-requires c =
-    let h = running_within c.args.self.now.cells c.args.self.now.tasks.items c.args.self.now.sound c.args.parent c.in-ok-running.ensures in
+    let h = running_within c.args.self.now.cells c.args.self.now.tasks.items c.args.self.now.sound c.args.parent c.in_ok-running.ensures in
     let n = c.args.self.now.tasks.ok.0 in
     omega arith
 
-pub returns-then-has-commutative : goal.returns-then-has-commutative
-returns-then-has-commutative c =
-    commutative_parent (view c.args.self.now) c.args.parent c.args.accesses.now c.in-ok-running.ensures
+pub returns-then-has_commutative : goal.returns-then-has_commutative
+returns-then-has_commutative c =
+    commutative_parent (view c.args.self.now) c.args.parent c.args.accesses.now c.in_ok-running.ensures
     (
     room_read c.args.self.now.cells c.args.self.now.tasks.items c.args.self.now.sound
-    (let h = c.if-len-ge-MOST-TASKS.false in let e = c.len.ensures in let n = c.args.self.now.tasks.ok.0 in omega arith)
+    (let h = c.if-len-ge-MOST_TASKS.false in let e = c.len.ensures in let n = c.args.self.now.tasks.ok.0 in omega arith)
     )
-    (le-leb (length c.args.accesses.now) 8 c.if-accesses-gt-MOST-ACCESSES.false) (sym c.has-regions.ensures ∙ c.if-not-has-regions.false) (sym c.kinds_known.ensures ∙ c.if-not-kinds-known.false)
+    (le-leb (length c.args.accesses.now) 8 c.if-accesses-gt-MOST_ACCESSES.false) (sym c.has_regions.ensures ∙ c.if-not-has_regions.false) (sym c.kinds_known.ensures ∙ c.if-not-kinds_known.false)
     (
     not-true _
     (
     sym
-    (commutative_read c.args.self.now.cells c.args.self.now.tasks.items c.args.self.now.sound c.args.parent c.in-ok-running.ensures c.index.result.now c.index.ensures c.has-commutative.result c.has-commutative.ensures)
-    ∙ c.if-has-commutative.true
+    (commutative_read c.args.self.now.cells c.args.self.now.tasks.items c.args.self.now.sound c.args.parent c.in_ok-running.ensures c.index.result.now c.index.ensures c.has_commutative.result c.has_commutative.ensures)
+    ∙ c.if-has_commutative.true
     )
     )
 
-pub returns-then-not-covers-all : goal.returns-then-not-covers-all
-returns-then-not-covers-all c =
-    not_covered (view c.args.self.now) c.args.parent c.args.accesses.now c.in-ok-running.ensures
+pub returns-then-not-covers_all : goal.returns-then-not-covers_all
+returns-then-not-covers_all c =
+    not_covered (view c.args.self.now) c.args.parent c.args.accesses.now c.in_ok-running.ensures
     (
     room_read c.args.self.now.cells c.args.self.now.tasks.items c.args.self.now.sound
-    (let h = c.if-len-ge-MOST-TASKS.false in let e = c.len.ensures in let n = c.args.self.now.tasks.ok.0 in omega arith)
+    (let h = c.if-len-ge-MOST_TASKS.false in let e = c.len.ensures in let n = c.args.self.now.tasks.ok.0 in omega arith)
     )
-    (le-leb (length c.args.accesses.now) 8 c.if-accesses-gt-MOST-ACCESSES.false) (sym c.has-regions.ensures ∙ c.if-not-has-regions.false) (sym c.kinds_known.ensures ∙ c.if-not-kinds-known.false)
+    (le-leb (length c.args.accesses.now) 8 c.if-accesses-gt-MOST_ACCESSES.false) (sym c.has_regions.ensures ∙ c.if-not-has_regions.false) (sym c.kinds_known.ensures ∙ c.if-not-kinds_known.false)
     (
     not-false _
     (
     sym
-    (commutative_read c.args.self.now.cells c.args.self.now.tasks.items c.args.self.now.sound c.args.parent c.in-ok-running.ensures c.index.result.now c.index.ensures c.has-commutative.result c.has-commutative.ensures)
-    ∙ c.if-has-commutative.false
+    (commutative_read c.args.self.now.cells c.args.self.now.tasks.items c.args.self.now.sound c.args.parent c.in_ok-running.ensures c.index.result.now c.index.ensures c.has_commutative.result c.has_commutative.ensures)
+    ∙ c.if-has_commutative.false
     )
     )
     (
     sym
     (
-    covers_read c.args.self.now.cells c.args.self.now.tasks.items c.args.self.now.sound c.args.parent c.in-ok-running.ensures c.index.result.now c.index.ensures c.args.accesses.now c.of-accesses-asked.result
-    (c.of-accesses-asked.ensures.held, c.of-accesses-asked.ensures.reach (view c.args.self.now) (sym c.has-regions.ensures ∙ c.if-not-has-regions.false))
+    covers_read c.args.self.now.cells c.args.self.now.tasks.items c.args.self.now.sound c.args.parent c.in_ok-running.ensures c.index.result.now c.index.ensures c.args.accesses.now c.of_accesses-asked.result
+    (c.of_accesses-asked.ensures.held, c.of_accesses-asked.ensures.reach (view c.args.self.now) (sym c.has_regions.ensures ∙ c.if-not-has_regions.false))
     c.covers_all.result c.covers_all.ensures
     )
-    ∙ c.if-not-covers-all.true
+    ∙ c.if-not-covers_all.true
     )
 
 pub returns : goal.returns
 returns c = (
-  all_asked (view c.args.self.now) c.args.parent c.args.accesses.now c.in-ok-running.ensures
+  all_asked (view c.args.self.now) c.args.parent c.args.accesses.now c.in_ok-running.ensures
       (
       room_read c.args.self.now.cells c.args.self.now.tasks.items c.args.self.now.sound
-      (let h = c.if-len-ge-MOST-TASKS.false in let e = c.len.ensures in let n = c.args.self.now.tasks.ok.0 in omega arith)
+      (let h = c.if-len-ge-MOST_TASKS.false in let e = c.len.ensures in let n = c.args.self.now.tasks.ok.0 in omega arith)
       )
-      (le-leb (length c.args.accesses.now) 8 c.if-accesses-gt-MOST-ACCESSES.false) (sym c.has-regions.ensures ∙ c.if-not-has-regions.false) (sym c.kinds_known.ensures ∙ c.if-not-kinds-known.false)
+      (le-leb (length c.args.accesses.now) 8 c.if-accesses-gt-MOST_ACCESSES.false) (sym c.has_regions.ensures ∙ c.if-not-has_regions.false) (sym c.kinds_known.ensures ∙ c.if-not-kinds_known.false)
       (
       not-false _
       (
       sym
-      (commutative_read c.args.self.now.cells c.args.self.now.tasks.items c.args.self.now.sound c.args.parent c.in-ok-running.ensures c.index.result.now c.index.ensures c.has-commutative.result c.has-commutative.ensures)
-      ∙ c.if-has-commutative.false
+      (commutative_read c.args.self.now.cells c.args.self.now.tasks.items c.args.self.now.sound c.args.parent c.in_ok-running.ensures c.index.result.now c.index.ensures c.has_commutative.result c.has_commutative.ensures)
+      ∙ c.if-has_commutative.false
       )
       )
       (
       sym
       (
-      covers_read c.args.self.now.cells c.args.self.now.tasks.items c.args.self.now.sound c.args.parent c.in-ok-running.ensures c.index.result.now c.index.ensures c.args.accesses.now c.of-accesses-asked.result
-      (c.of-accesses-asked.ensures.held, c.of-accesses-asked.ensures.reach (view c.args.self.now) (sym c.has-regions.ensures ∙ c.if-not-has-regions.false))
+      covers_read c.args.self.now.cells c.args.self.now.tasks.items c.args.self.now.sound c.args.parent c.in_ok-running.ensures c.index.result.now c.index.ensures c.args.accesses.now c.of_accesses-asked.result
+      (c.of_accesses-asked.ensures.held, c.of_accesses-asked.ensures.reach (view c.args.self.now) (sym c.has_regions.ensures ∙ c.if-not-has_regions.false))
       c.covers_all.result c.covers_all.ensures
       )
-      ∙ c.if-not-covers-all.false
+      ∙ c.if-not-covers_all.false
       ),
-  (c.of-accesses-asked.ensures.held, c.of-accesses-asked.ensures.reach (view c.args.self.now) (sym c.has-regions.ensures ∙ c.if-not-has-regions.false)),
+  (c.of_accesses-asked.ensures.held, c.of_accesses-asked.ensures.reach (view c.args.self.now) (sym c.has_regions.ensures ∙ c.if-not-has_regions.false)),
 )

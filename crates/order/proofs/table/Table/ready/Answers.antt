@@ -4,7 +4,7 @@ use Rattle.order.specs.View.{view}
 use Rattle.order.proofs.Listing.{SoFar, listed, so_far_skip, so_far_add, start_ok}
 use Rattle.order.proofs.Viewed.{count_of}
 use Rattle.order.proofs.table.Table.ready.Goals as goal
-use Rattle.order.proofs.table.Table.ready.Goals.{then-is-ok, else-is-ok}
+use Rattle.order.proofs.table.Table.ready.Goals.{then-is_ok, else-is_ok}
 
 module _ (f : ℕ → Bool) (before : List ℕ) (t n m : ℕ) (after next : List ℕ) (so : SoFar f before t n after) where
   added : m ≡ n + 1 → next ≡ set after n t → f t ≡ true → n < length after → SoFar f before (t + 1) m next
@@ -19,19 +19,19 @@ module _ (f : ℕ → Bool) (before : List ℕ) (t n m : ℕ) (after next : List
 
 pub loop-t-preserved : goal.loop-t-preserved
 loop-t-preserved c =
-    let ok = start_ok (view c.args.self.now) c.loop-t.t c.may-start.result c.may-start.ensures in
-    elim c.if-is-ok.branch [
-      | then-is-ok w ↦
-          added (λ s. accepted (view c.args.self.now) (start s)) c.args.list.now c.loop-t.t c.loop-t.n c.if-is-ok.n c.loop-t.list c.if-is-ok.list c.loop-t.invariant
-          w.n-is w.list-is (sym ok ∙ (sym c.is-ok.ensures.value ∙ w.if-is-ok.true))
-          (omega (arith, c.loop-t.invariant.0, c.loop-t-test.true, c.len-t-end.ensures, c.args.self.now.sound.1, c.loop-t.auto.list, c.if-list-lt-MOST-TASKS.false))
-      | else-is-ok w ↦
-          skipped (λ s. accepted (view c.args.self.now) (start s)) c.args.list.now c.loop-t.t c.loop-t.n c.if-is-ok.n c.loop-t.list c.if-is-ok.list c.loop-t.invariant
-          w.n-is w.list-is (sym ok ∙ (sym c.is-ok.ensures.value ∙ w.if-is-ok.false))
+    let ok = start_ok (view c.args.self.now) c.loop-t.t c.may_start.result c.may_start.ensures in
+    elim c.if-is_ok.branch [
+      | then-is_ok w ↦
+          added (λ s. accepted (view c.args.self.now) (start s)) c.args.list.now c.loop-t.t c.loop-t.n c.if-is_ok.n c.loop-t.list c.if-is_ok.list c.loop-t.invariant
+          w.n-is w.list-is (sym ok ∙ (sym c.is_ok.ensures.value ∙ w.if-is_ok.true))
+          (omega (arith, c.loop-t.invariant.0, c.loop-t-test.true, c.len-t-end.ensures, c.args.self.now.sound.1, c.loop-t.auto.list, c.if-list-lt-MOST_TASKS.false))
+      | else-is_ok w ↦
+          skipped (λ s. accepted (view c.args.self.now) (start s)) c.args.list.now c.loop-t.t c.loop-t.n c.if-is_ok.n c.loop-t.list c.if-is_ok.list c.loop-t.invariant
+          w.n-is w.list-is (sym ok ∙ (sym c.is_ok.ensures.value ∙ w.if-is_ok.false))
     ]
 
 pub returns : goal.returns
 returns c =
-    listed (view c.args.self.now) c.args.list.now c.loop-t.list c.loop-t.t c.loop-t.n c.if-list-lt-MOST-TASKS.false
+    listed (view c.args.self.now) c.args.list.now c.loop-t.list c.loop-t.t c.loop-t.n c.if-list-lt-MOST_TASKS.false
     (omega (arith, count_of c.args.self.now.cells (vec_items c.args.self.now.tasks) c.args.self.now.sound.0, c.len-t-end.ensures, c.loop-t-test.false, c.loop-t.auto.t-end))
     c.loop-t.invariant

@@ -7,65 +7,62 @@ use Rattle.order.proofs.Answering.{refused_did, before_release, region_end}
 use Rattle.order.proofs.Turning.{running_within, runs_reach, sound_released, release_did}
 use Rattle.order.proofs.table.Table.release.Goals as goal
 
-pub returns-in-err-running : goal.returns-in-err-running
-returns-in-err-running c =
-    let p = err_from_is_err_and c.from-residual.result c.from-residual.ensures.1 in
+pub returns-in_err-running : goal.returns-in_err-running
+returns-in_err-running c =
+    let p = err_from_is_err_and c.from_residual.result c.from_residual.ensures.1 in
     record {
       did =
-          refused_did (view c.args.self.now) (release c.args.t c.args.lo c.args.hi) c.from-residual.result p.0
-          c.in-err-running.field-0.0 p.1 p.2
+          refused_did (view c.args.self.now) (release c.args.t c.args.lo c.args.hi) c.from_residual.result p.0
+          c.in_err-running.field-0.0 p.1 p.2
           (
-          before_release (view c.args.self.now) c.args.t c.args.lo c.args.hi c.in-err-running.field-0.0
-          c.in-err-running.ensures
+          before_release (view c.args.self.now) c.args.t c.args.lo c.args.hi c.in_err-running.field-0.0
+          c.in_err-running.ensures
           );
       others = λ x d n. refl;
     }
 
-pub index-mut-requires : goal.index-mut-requires
-index-mut-requires c =
+pub index_mut-requires : goal.index_mut-requires
+index_mut-requires c =
     let h =
     running_within c.args.self.now.cells c.args.self.now.tasks.items c.args.self.now.sound c.args.t
-    c.in-ok-running.ensures in
+    c.in_ok-running.ensures in
     let n = c.args.self.now.tasks.ok.0 in
     omega arith
 
-pub invariant-of-self : goal.invariant-of-self
-invariant-of-self c =
+pub invariant_of-self : goal.invariant_of-self
+invariant_of-self c =
     let h =
     running_within c.args.self.now.cells c.args.self.now.tasks.items c.args.self.now.sound c.args.t
-    c.in-ok-running.ensures in
-    let l = region_end (view c.args.self.now) c.args.lo c.args.hi (sym c.has-region.ensures ∙ c.if-not-has-region.false) in (
-      c.args.self.now.room,
-      (
-        sound_released c.args.self.now.cells c.args.self.now.tasks.items c.args.self.now.sound c.args.t h
-            c.index-mut.result.now c.index-mut.ensures.value c.args.lo c.args.hi c.release.result c.release.new.self
-            (
-            c.release.ensures c.args.self.now.cells l
-            (
-            runs_reach c.args.self.now.cells c.args.self.now.tasks.items c.args.self.now.sound c.args.t h
-            c.index-mut.result.now c.index-mut.ensures.value
-            )
-            ),
-        tt,
-      ),
-    )
+    c.in_ok-running.ensures in
+    let l = region_end (view c.args.self.now) c.args.lo c.args.hi (sym c.has_region.ensures ∙ c.if-not-has_region.false) in record {
+      room = c.args.self.now.room;
+      sound = sound_released c.args.self.now.cells c.args.self.now.tasks.items c.args.self.now.sound c.args.t h
+          c.index_mut.result.now c.index_mut.ensures.value c.args.lo c.args.hi c.release.result c.release.new.self
+          (
+          c.release.ensures c.args.self.now.cells l
+          (
+          runs_reach c.args.self.now.cells c.args.self.now.tasks.items c.args.self.now.sound c.args.t h
+          c.index_mut.result.now c.index_mut.ensures.value
+          )
+          );
+    }
 
 pub returns : goal.returns
 returns c =
     let h =
     running_within c.args.self.now.cells c.args.self.now.tasks.items c.args.self.now.sound c.args.t
-    c.in-ok-running.ensures in
-    let lies = sym c.has-region.ensures ∙ c.if-not-has-region.false in
+    c.in_ok-running.ensures in
+    let lies = sym c.has_region.ensures ∙ c.if-not-has_region.false in
     record {
       did =
           release_did c.args.self.now.cells c.args.self.now.tasks.items c.args.self.now.sound c.args.t h
-          c.index-mut.result.now c.index-mut.ensures.value c.args.lo c.args.hi c.in-ok-running.ensures lies
+          c.index_mut.result.now c.index_mut.ensures.value c.args.lo c.args.hi c.in_ok-running.ensures lies
           c.release.result c.release.new.self
           (
           c.release.ensures c.args.self.now.cells (region_end (view c.args.self.now) c.args.lo c.args.hi lies)
           (
           runs_reach c.args.self.now.cells c.args.self.now.tasks.items c.args.self.now.sound c.args.t h
-          c.index-mut.result.now c.index-mut.ensures.value
+          c.index_mut.result.now c.index_mut.ensures.value
           )
           );
       others = λ x d n. get_or-set_other c.args.self.now.tasks.items c.args.t x c.release.new.self d n;

@@ -8,39 +8,36 @@ use Rattle.order.proofs.Answering.{refused_did}
 use Rattle.order.proofs.Turning.{sound_turned, resume_asks, resume_did, unknown_resume}
 use Rattle.order.proofs.table.Table.resume.Goals as goal
 
-pub returns-in-err-known : goal.returns-in-err-known
-returns-in-err-known c =
-    let p = err_from_is_err_and c.from-residual.result c.from-residual.ensures.1 in
-    let h = c.in-err-known.ensures in
-    refused_did (view c.args.self.now) (resume c.args.t) c.from-residual.result p.0 NoSuchTask p.1 (p.2 ∙ h.0)
+pub returns-in_err-known : goal.returns-in_err-known
+returns-in_err-known c =
+    let p = err_from_is_err_and c.from_residual.result c.from_residual.ensures.1 in
+    let h = c.in_err-known.ensures in
+    refused_did (view c.args.self.now) (resume c.args.t) c.from_residual.result p.0 NoSuchTask p.1 (p.2 ∙ h.0)
     (unknown_resume c.args.self.now.cells c.args.self.now.tasks.items c.args.self.now.sound c.args.t h.1)
 
-pub returns-in-err-may-resume : goal.returns-in-err-may-resume
-returns-in-err-may-resume c =
-    let p = err_from_is_err_and c.from-residual-in-err-may-resume.result c.from-residual-in-err-may-resume.ensures.1 in
-    refused_did (view c.args.self.now) (resume c.args.t) c.from-residual-in-err-may-resume.result p.0
-    c.in-err-may-resume.field-0.0 p.1 p.2
+pub returns-in_err-may_resume : goal.returns-in_err-may_resume
+returns-in_err-may_resume c =
+    let p = err_from_is_err_and c.from_residual-in_err-may_resume.result c.from_residual-in_err-may_resume.ensures.1 in
+    refused_did (view c.args.self.now) (resume c.args.t) c.from_residual-in_err-may_resume.result p.0
+    c.in_err-may_resume.field-0.0 p.1 p.2
     (
-    resume_asks c.args.self.now.cells c.args.self.now.tasks.items c.args.self.now.sound c.args.t c.in-ok-known.ensures
-    c.index.result.now c.index.ensures _ c.in-err-may-resume.ensures
+    resume_asks c.args.self.now.cells c.args.self.now.tasks.items c.args.self.now.sound c.args.t c.in_ok-known.ensures
+    c.index.result.now c.index.ensures _ c.in_err-may_resume.ensures
     )
 
-pub invariant-of-self : goal.invariant-of-self
-invariant-of-self c = (
-  c.args.self.now.room,
-  (
-    sound_turned c.args.self.now.cells c.args.self.now.tasks.items c.args.self.now.sound c.args.t c.in-ok-known.ensures
-        c.index-mut.result.now c.index-mut.ensures.value Resume refl c.turn.result c.turn.new.self c.turn.ensures,
-    tt,
-  ),
-)
+pub invariant_of-self : goal.invariant_of-self
+invariant_of-self c = record {
+  room = c.args.self.now.room;
+  sound = sound_turned c.args.self.now.cells c.args.self.now.tasks.items c.args.self.now.sound c.args.t c.in_ok-known.ensures
+      c.index_mut.result.now c.index_mut.ensures.value Resume refl c.turn.result c.turn.new.self c.turn.ensures;
+}
 
 pub returns : goal.returns
 returns c =
-    resume_did c.args.self.now.cells c.args.self.now.tasks.items c.args.self.now.sound c.args.t c.in-ok-known.ensures
-    c.index-mut.result.now c.index-mut.ensures.value c.turn.result c.turn.new.self
+    resume_did c.args.self.now.cells c.args.self.now.tasks.items c.args.self.now.sound c.args.t c.in_ok-known.ensures
+    c.index_mut.result.now c.index_mut.ensures.value c.turn.result c.turn.new.self
     (
-    resume_asks c.args.self.now.cells c.args.self.now.tasks.items c.args.self.now.sound c.args.t c.in-ok-known.ensures
-    c.index.result.now c.index.ensures 0 c.in-ok-may-resume.ensures
+    resume_asks c.args.self.now.cells c.args.self.now.tasks.items c.args.self.now.sound c.args.t c.in_ok-known.ensures
+    c.index.result.now c.index.ensures 0 c.in_ok-may_resume.ensures
     )
     c.turn.ensures

@@ -10,6 +10,6 @@ returns-then-not-clashes c =
 
 pub returns-else-not-clashes : goal.returns-else-not-clashes
 returns-else-not-clashes c =
-    right_decides c.clashes.result c.is-ancestor.result c.if-not-clashes.false
+    right_decides c.clashes.result c.is_ancestor.result c.if-not-clashes.false
     ∙ stands_aside_is c.args.self.now.cells (vec_items c.args.self.now.tasks) c.args.self.now.sound c.args.deed c.args.t c.args.cell c.args.u
-    c.index.result.now c.requires.1 c.index.ensures c.clashes.result c.is-ancestor.result c.clashes.ensures c.is-ancestor.ensures
+    c.index.result.now c.requires.1 c.index.ensures c.clashes.result c.is_ancestor.result c.clashes.ensures c.is_ancestor.ensures

@@ -7,33 +7,30 @@ use Rattle.order.proofs.Answering.{refused_did}
 use Rattle.order.proofs.Turning.{sound_turned, start_did, start_within}
 use Rattle.order.proofs.table.Table.start.Goals as goal
 
-pub returns-in-err-may-start : goal.returns-in-err-may-start
-returns-in-err-may-start c =
-    let p = err_from_is_err_and c.from-residual.result c.from-residual.ensures.1 in
-    refused_did (view c.args.self.now) (start c.args.t) c.from-residual.result p.0 c.in-err-may-start.field-0.0 p.1 p.2
-    c.in-err-may-start.ensures
+pub returns-in_err-may_start : goal.returns-in_err-may_start
+returns-in_err-may_start c =
+    let p = err_from_is_err_and c.from_residual.result c.from_residual.ensures.1 in
+    refused_did (view c.args.self.now) (start c.args.t) c.from_residual.result p.0 c.in_err-may_start.field-0.0 p.1 p.2
+    c.in_err-may_start.ensures
 
-pub index-mut-requires : goal.index-mut-requires
-index-mut-requires c =
+pub index_mut-requires : goal.index_mut-requires
+index_mut-requires c =
     let h =
     start_within c.args.self.now.cells c.args.self.now.tasks.items c.args.self.now.sound c.args.t
-    c.in-ok-may-start.ensures in
+    c.in_ok-may_start.ensures in
     let n = c.args.self.now.tasks.ok.0 in
     omega arith
 
-pub invariant-of-self : goal.invariant-of-self
-invariant-of-self c = (
-  c.args.self.now.room,
-  (
-    sound_turned c.args.self.now.cells c.args.self.now.tasks.items c.args.self.now.sound c.args.t
-        (start_within c.args.self.now.cells c.args.self.now.tasks.items c.args.self.now.sound c.args.t c.in-ok-may-start.ensures)
-        c.index-mut.result.now c.index-mut.ensures.value Start refl c.turn.result c.turn.new.self c.turn.ensures,
-    tt,
-  ),
-)
+pub invariant_of-self : goal.invariant_of-self
+invariant_of-self c = record {
+  room = c.args.self.now.room;
+  sound = sound_turned c.args.self.now.cells c.args.self.now.tasks.items c.args.self.now.sound c.args.t
+      (start_within c.args.self.now.cells c.args.self.now.tasks.items c.args.self.now.sound c.args.t c.in_ok-may_start.ensures)
+      c.index_mut.result.now c.index_mut.ensures.value Start refl c.turn.result c.turn.new.self c.turn.ensures;
+}
 
 pub returns : goal.returns
 returns c =
     start_did c.args.self.now.cells c.args.self.now.tasks.items c.args.self.now.sound c.args.t
-    (start_within c.args.self.now.cells c.args.self.now.tasks.items c.args.self.now.sound c.args.t c.in-ok-may-start.ensures)
-    c.index-mut.result.now c.index-mut.ensures.value c.turn.result c.turn.new.self c.in-ok-may-start.ensures c.turn.ensures
+    (start_within c.args.self.now.cells c.args.self.now.tasks.items c.args.self.now.sound c.args.t c.in_ok-may_start.ensures)
+    c.index_mut.result.now c.index_mut.ensures.value c.turn.result c.turn.new.self c.in_ok-may_start.ensures c.turn.ensures
