@@ -17,42 +17,42 @@ use stores::update::update;
 impl<S: Store> Engine<S> {
     // The parent makes a task, whose number is answered.
     pub fn create(&mut self, parent: u16, waits: bool, accesses: &[Access]) -> Result<u16, Refusal>
-        ensures { One S.Store.cells S.Store.verdict S.Store.took E-as-Element.rest E-as-Element.updated (view self.old.table) self.old.store (Create parent waits accesses.entry) (noted Task result) (view self.new.table) self.new.store }
+        ensures { One S.Store.cells S.Store.verdict S.Store.took S.E.Element.rest S.E.Element.updated (view self.old.table) self.old.store (Create parent waits accesses.entry) (noted Task result) (view self.new.table) self.new.store }
     {
         Ok(self.table.create(parent, waits, accesses)?)
     }
 
     // The task starts.
     pub fn start(&mut self, task: u16) -> Result<(), Refusal>
-        ensures { One S.Store.cells S.Store.verdict S.Store.took E-as-Element.rest E-as-Element.updated (view self.old.table) self.old.store (Start task) (noted (λ _. Done) result) (view self.new.table) self.new.store }
+        ensures { One S.Store.cells S.Store.verdict S.Store.took S.E.Element.rest S.E.Element.updated (view self.old.table) self.old.store (Start task) (noted (λ _. Done) result) (view self.new.table) self.new.store }
     {
         Ok(self.table.start(task)?)
     }
 
     // The task ends.
     pub fn finish(&mut self, task: u16) -> Result<(), Refusal>
-        ensures { One S.Store.cells S.Store.verdict S.Store.took E-as-Element.rest E-as-Element.updated (view self.old.table) self.old.store (Finish task) (noted (λ _. Done) result) (view self.new.table) self.new.store }
+        ensures { One S.Store.cells S.Store.verdict S.Store.took S.E.Element.rest S.E.Element.updated (view self.old.table) self.old.store (Finish task) (noted (λ _. Done) result) (view self.new.table) self.new.store }
     {
         Ok(self.table.finish(task)?)
     }
 
     // The task waits for its children.
     pub fn wait(&mut self, task: u16) -> Result<(), Refusal>
-        ensures { One S.Store.cells S.Store.verdict S.Store.took E-as-Element.rest E-as-Element.updated (view self.old.table) self.old.store (Wait task) (noted (λ _. Done) result) (view self.new.table) self.new.store }
+        ensures { One S.Store.cells S.Store.verdict S.Store.took S.E.Element.rest S.E.Element.updated (view self.old.table) self.old.store (Wait task) (noted (λ _. Done) result) (view self.new.table) self.new.store }
     {
         Ok(self.table.wait(task)?)
     }
 
     // The task goes on after its wait.
     pub fn resume(&mut self, task: u16) -> Result<(), Refusal>
-        ensures { One S.Store.cells S.Store.verdict S.Store.took E-as-Element.rest E-as-Element.updated (view self.old.table) self.old.store (Resume task) (noted (λ _. Done) result) (view self.new.table) self.new.store }
+        ensures { One S.Store.cells S.Store.verdict S.Store.took S.E.Element.rest S.E.Element.updated (view self.old.table) self.old.store (Resume task) (noted (λ _. Done) result) (view self.new.table) self.new.store }
     {
         Ok(self.table.resume(task)?)
     }
 
     // The task lets go of the region.
     pub fn release(&mut self, task: u16, lo: u16, hi: u16) -> Result<(), Refusal>
-        ensures { One S.Store.cells S.Store.verdict S.Store.took E-as-Element.rest E-as-Element.updated (view self.old.table) self.old.store (Release task lo hi) (noted (λ _. Done) result) (view self.new.table) self.new.store }
+        ensures { One S.Store.cells S.Store.verdict S.Store.took S.E.Element.rest S.E.Element.updated (view self.old.table) self.old.store (Release task lo hi) (noted (λ _. Done) result) (view self.new.table) self.new.store }
     {
         Ok(self.table.release(task, lo, hi)?)
     }

@@ -6,7 +6,7 @@ use Rattle.calls.proofs.header.header_of.Goals.{then-not-is_empty-via-then-not-i
 
 pub returns-then-not-is_empty : goal.returns-then-not-is_empty
 returns-then-not-is_empty c h form =
-    let only = only_header _ _ _ _ _ c.in-ok-held.ensures c.in-ok-cells.ensures h form in
+    let only = only_header _ _ _ _ _ c.in_ok-held.ensures c.in_ok-cells.ensures h form in
     elim c.then-not-is_empty.branch [
       | then-not-is_empty-via-then-not-is_empty w ↦ eqb-false _ _ (sym w.if-not-is_empty.ensures) only.0
       | then-not-is_empty-via-else-not-is_empty+then-cells-lt1 w ↦ omega arith

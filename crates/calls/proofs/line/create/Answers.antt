@@ -8,22 +8,22 @@ use Rattle.calls.proofs.Makes.{three_and, stopped_map}
 use Rattle.text.proofs.Apart.{apart}
 use Rattle.calls.proofs.line.create.Goals as goal
 
-pub returns-in-err-accesses : goal.returns-in-err-accesses
-returns-in-err-accesses g c =
-    let p = err_from_is_err_and c.from-residual-in-err-accesses.result c.from-residual-in-err-accesses.ensures.1 in
+pub returns-in_err-accesses : goal.returns-in_err-accesses
+returns-in_err-accesses g c =
+    let p = err_from_is_err_and c.from_residual-in_err-accesses.result c.from_residual-in_err-accesses.ensures.1 in
     rw (p.1, p.2)
     (stopped_map _ _ (λ why. (why ≡ OutOfRange) × (Fits g.E.Element.made Create c.args.numbers.now → ⊥))
     (λ why p. (p.0, λ f. p.1 (subst AccessesFit (sym (take_rest c.args.numbers.now 3)) f.3)))
-    (λ p. apart NoLineEnd OutOfRange (λ e. omega (arith, e)) p.0) (λ p. apart UnknownLetter OutOfRange (λ e. omega (arith, e)) p.0) c.in-err-accesses.ensures)
+    (λ p. apart NoLineEnd OutOfRange (λ e. omega (arith, e)) p.0) (λ p. apart UnknownLetter OutOfRange (λ e. omega (arith, e)) p.0) c.in_err-accesses.ensures)
 
 pub returns : goal.returns
 returns g c =
-    let a = c.in-ok-parent.ensures in
-    let b = c.in-ok-waits.ensures in
-    let k = c.in-ok-code.ensures in
-    let r = c.in-ok-accesses.ensures in
+    let a = c.in_ok-parent.ensures in
+    let b = c.in_ok-waits.ensures in
+    let k = c.in_ok-code.ensures in
+    let r = c.in_ok-accesses.ensures in
     let rest = take_rest c.args.numbers.now 3 in
-    let count : length (vec_items c.in-ok-accesses.accesses) ≡ get_or c.args.numbers.now 2 0 =
+    let count : length (vec_items c.in_ok-accesses.accesses) ≡ get_or c.args.numbers.now 2 0 =
     omega (arith, c.requires, r.2, ap length rest, length-drop 3 c.args.numbers.now) in
     record {
       letter = refl;

@@ -4,6 +4,6 @@ use Rattle.calls.proofs.line.read.Goals as goal
 
 pub returns : goal.returns
 returns g c =
-    let a = c.in-ok-bound.ensures in
-    let b = c.in-ok-bound-2.ensures in
+    let a = c.in_ok-bound.ensures in
+    let b = c.in_ok-bound-2.ensures in
     record { letter = refl; numbers = two_is _ _ _ c.requires a.0 b.0; fits = (a.1, b.1) }

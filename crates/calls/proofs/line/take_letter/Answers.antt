@@ -5,5 +5,5 @@ use Rattle.calls.proofs.line.take_letter.Goals as goal
 
 pub returns-in-Some : goal.returns-in-Some
 returns-in-Some c =
-    let some = eqb-false _ _ (sym c.if-is-empty.ensures) in
+    let some = eqb-false _ _ (sym c.if-is_empty.ensures) in
     first_split _ _ (omega (arith, some)) c.in-Some.ensures

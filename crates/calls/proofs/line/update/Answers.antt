@@ -3,17 +3,17 @@ use Rattle.std.proofs.lemmas.List.{take_rest}
 use Rattle.calls.proofs.Makes.{two_and, made_none, made_some}
 use Rattle.calls.proofs.line.update.Goals as goal
 
-pub returns-in-err-value : goal.returns-in-err-value
-returns-in-err-value g c =
+pub returns-in_err-value : goal.returns-in_err-value
+returns-in_err-value g c =
     let none : is_some (g.E.Element.made (drop 2 c.args.numbers.now)) ≡ true → ⊥ =
-    made_none g.E.Element.made _ _ (take_rest c.args.numbers.now 2) c.in-err-value.ensures.1 in
+    made_none g.E.Element.made _ _ (take_rest c.args.numbers.now 2) c.in_err-value.ensures.1 in
     search rules
 
 pub returns : goal.returns
 returns g c =
-    let a = c.in-ok-bound.ensures in
-    let b = c.in-ok-bound-2.ensures in
-    let v = c.in-ok-value.ensures in
+    let a = c.in_ok-bound.ensures in
+    let b = c.in_ok-bound-2.ensures in
+    let v = c.in_ok-value.ensures in
     let rest = take_rest c.args.numbers.now 2 in
     record {
       letter = refl;
