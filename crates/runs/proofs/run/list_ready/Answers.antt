@@ -11,8 +11,8 @@ returns-then-places-lt64 g c =
     g.S.Store.cells
     g.S.Store.verdict
     g.S.Store.took
-    g.E.Element.rest
-    g.E.Element.updated
+    g.S.E.Element.rest
+    g.S.E.Element.updated
     _
     _
     _
@@ -22,6 +22,6 @@ returns-then-places-lt64 g c =
     _
     _
     c.ready.ensures.one
-    c.in-ok-count.was
+    c.in_ok-count.was
     (part_short c.args.places most_tasks _ c.if-places-lt64.true)
     )

@@ -6,11 +6,11 @@ use Rattle.runs.proofs.run.run_turns.Goals as goal
 
 pub loop-turn-preserved : goal.loop-turn-preserved
 loop-turn-preserved g c =
-    ran_more g.S.Store.cells g.S.Store.verdict g.S.Store.took g.E.Element.rest g.E.Element.updated
+    ran_more g.S.Store.cells g.S.Store.verdict g.S.Store.took g.S.E.Element.rest g.S.E.Element.updated
     (view c.args.engine.now.table) c.args.engine.now.store _ _ _
     (view c.loop-turn.engine.table) c.loop-turn.engine.store _ _
-    (view c.take-turn.new.engine.table) c.take-turn.new.engine.store
-    (omega arith) c.take-turn.ensures.call c.take-turn.ensures.one c.loop-turn.invariant
+    (view c.take_turn.new.engine.table) c.take_turn.new.engine.store
+    (omega arith) c.take_turn.ensures.call c.take_turn.ensures.one c.loop-turn.invariant
 
 pub returns : goal.returns
 returns g c =
@@ -20,6 +20,6 @@ returns g c =
       ran = ran;
       calls = c.loop-turn.invariant.1;
       promised =
-          ran_promised g.S.Store.cells g.S.Store.verdict g.S.Store.took g.E.Element.rest g.E.Element.updated g.met.E.Element.commutes
+          ran_promised g.S.Store.cells g.S.Store.verdict g.S.Store.took g.S.E.Element.rest g.S.E.Element.updated g.met.E.Element.commutes
           c.args.engine.now.store c.loop-turn.turns (view c.loop-turn.engine.table) c.loop-turn.engine.store ran;
     }
