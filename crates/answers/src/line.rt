@@ -75,7 +75,7 @@ pub fn write_answer<E: Element>(
 ) -> Result<(), AllocError>
     ensures { string_bytes out.new ≡ (if is_ok result then string_bytes out.old ++ line_of E.Element.numbers answer.now else string_bytes out.old) }
 {
-    let heap = out.allocator();
+    let heap = *out.allocator();
     let mut line = match answer {
         Ok(reply) => reply_text(heap, reply)?,
         Err(why) => refusal_text(heap, *why)?,

@@ -66,7 +66,7 @@ fn push_end(out: &mut String, end: Option<BadLine>) -> Result<(), AllocError>
 {
     match end {
         Some(bad) => {
-            let text = bad_text(out.allocator(), bad.line, bad.why)?;
+            let text = bad_text(*out.allocator(), bad.line, bad.why)?;
             out.push_str(text.as_str())
         }
         None => Ok(()),

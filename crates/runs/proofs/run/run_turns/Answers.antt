@@ -20,6 +20,6 @@ returns g c =
       ran = ran;
       calls = c.loop-turn.invariant.1;
       promised =
-          ran_promised g.S.Store.cells g.S.Store.verdict g.S.Store.took g.S.E.Element.rest g.S.E.Element.updated g.met.E.Element.commutes
+          ran_promised g.S.Store.cells g.S.Store.verdict g.S.Store.took g.S.E.Element.rest g.S.E.Element.updated g.met.S.E.Element.commutes
           c.args.engine.now.store c.loop-turn.turns (view c.loop-turn.engine.table) c.loop-turn.engine.store ran;
     }
