@@ -22,11 +22,11 @@ loop-k-init c =
 
 pub loop-k-preserved : goal.loop-k-preserved
 loop-k-preserved c =
-    let tasks = c.create-task.ensures.tasks in
+    let tasks = c.create_task.ensures.tasks in
     let below : c.loop-k.k % c.args.cell < c.args.cell = mod_below c.loop-k.k c.args.cell c.requires.0 in (
       subst (Calm c.args.cell 0) (sym tasks) (born_calm (view c.loop-k.engine.table) c.args.cell (c.loop-k.k % c.args.cell) (λ e. omega arith) c.loop-k.invariant.0),
       ap count tasks ∙ (ap suc c.loop-k.invariant.1 ∙ sym (add-one c.loop-k.k)),
-      subst (λ s. c.args.cell < length s.places.now) (sym c.create-task.ensures.store) c.loop-k.invariant.2,
+      subst (λ s. c.args.cell < length s.places.now) (sym c.create_task.ensures.store) c.loop-k.invariant.2,
     )
 
 pub live-requires : goal.live-requires

@@ -6,22 +6,22 @@ use Rattle.lists.specs.Printing.{Printed, headless, headed, BodyOf}
 use Rattle.lists.proofs.Onward.{after_fits}
 use Rattle.lists.proofs.list.run_list.Goals as goal
 
-pub run-body-requires : goal.run-body-requires
-run-body-requires c =
-    let e = c.take-line.ensures.rest ∙ ap after_line c.new.ensures in
+pub run_body-requires : goal.run_body-requires
+run_body-requires c =
+    let e = c.take_line.ensures.rest ∙ ap after_line c.new.ensures in
     omega (arith, ap length e, after_fits c.args.text.now)
 
 pub returns-in-Ok : goal.returns-in-Ok
 returns-in-Ok c =
-    let e = c.take-line.ensures.rest ∙ ap after_line c.new.ensures in
-    let l = c.take-line.ensures.line ∙ ap line_of c.new.ensures in
-    IfOk-weaker c.run-body.result _ _
-    (λ out body. headed c.if-text-gt-MOST-BYTES.false c.in-Ok.header (subst (λ bs. HeaderRead bs c.in-Ok.header) l c.in-Ok.ensures) (subst (λ bs. BodyOf c.in-Ok.header bs (string_bytes out)) e body))
-    c.run-body.ensures
+    let e = c.take_line.ensures.rest ∙ ap after_line c.new.ensures in
+    let l = c.take_line.ensures.line ∙ ap line_of c.new.ensures in
+    IfOk-weaker c.run_body.result _ _
+    (λ out body. headed c.if-text-gt-MOST_BYTES.false c.in-Ok.header (subst (λ bs. HeaderRead bs c.in-Ok.header) l c.in-Ok.ensures) (subst (λ bs. BodyOf c.in-Ok.header bs (string_bytes out)) e body))
+    c.run_body.ensures
 
 pub returns-in-Err : goal.returns-in-Err
 returns-in-Err c =
-    let l = c.take-line.ensures.line ∙ ap line_of c.new.ensures in
-    IfOk-weaker c.bad-text_in-Err.result _ _
-    (λ out told. headless c.if-text-gt-MOST-BYTES.false c.in-Err.why (subst (λ bs. NoHeader bs c.in-Err.why) l c.in-Err.ensures) told)
-    c.bad-text_in-Err.ensures
+    let l = c.take_line.ensures.line ∙ ap line_of c.new.ensures in
+    IfOk-weaker c.bad_text-in-Err.result _ _
+    (λ out told. headless c.if-text-gt-MOST_BYTES.false c.in-Err.why (subst (λ bs. NoHeader bs c.in-Err.why) l c.in-Err.ensures) told)
+    c.bad_text-in-Err.ensures
