@@ -1,7 +1,7 @@
 -- Tests that hold of every kind, of every deed, of every holding.
 -- Assumes nothing.
-use Rattle.std.proofs.Common.{◌≡◌, ℕ, zero, suc, ◌<◌, Bool, true, false, not, ◌&&◌, ◌||◌, ◌⊎◌, sym, refl, ap, ◌∙◌, inl, inr, not-suc-le-zero, arith}
-use Rattle.std.proofs.lemmas.Bool.{and_parts, and_cases, and_from, cases_eq}
+use Rattle.std.proofs.Common.{◌≡◌, ℕ, Bool, true, false, not, ◌&&◌, ◌||◌, refl, arith}
+use Rattle.std.proofs.lemmas.Bool.{and_parts}
 use Rattle.kinds.specs.declared.deed.Deed.{Deed}
 use Rattle.kinds.specs.declared.deed.Deed.TheVariants.{Reading, Writing, Updating}
 use Rattle.kinds.specs.declared.holding.Holding.{Holding}

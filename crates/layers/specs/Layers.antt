@@ -1,5 +1,5 @@
 -- The two layers: an allowance of writes, and a write that is held back.
-use Rattle.std.specs.Prelude.{◌≡◌, ℕ, ◌+◌, ◌≤◌, cond, List, length, Some, None, Option, ◌==◌, ◌≢◌, slice_set, refl}
+use Rattle.std.specs.Prelude.{◌≡◌, ℕ, ◌≤◌, cond, List, length, Some, None, Option, ◌==◌, ◌≢◌, slice_set, refl}
 use Rattle.std.proofs.Common.{length-set}
 use Rattle.stores.specs.declared.fault.Cause.TheVariants.{AllowanceSpent}
 use Rattle.layers.specs.declared.held.Held.{Held}

@@ -1,11 +1,11 @@
 -- A text is read to its end just where it is the writing of calls.
 -- Assumes nothing.
-use Rattle.std.proofs.Common.{◌≡◌, ℕ, suc, ◌+◌, List, [], ◌∷◌, ◌++◌, length, take, drop, Some, None, decimal, Option, sym, refl, ap, ◌∙◌, subst, append_assoc, arith, ne_eqb}
+use Rattle.std.proofs.Common.{◌≡◌, ℕ, suc, ◌+◌, List, [], ◌∷◌, ◌++◌, length, take, drop, Some, None, decimal, Option, sym, refl, ap, ◌∙◌, append_assoc, arith, ne_eqb}
 use Rattle.std.proofs.lemmas.List.{take-append-drop}
 use Rattle.calls.specs.declared.letter.Letter.{Letter}
 use Rattle.calls.specs.declared.letter.Letter.TheVariants.{Create, Start, Finish, Wait, Resume, Release, Read, Write, Update, Look, Ready}
 use Rattle.calls.specs.declared.written.Written.{Written}
-use Rattle.calls.specs.Calls.{byte_of, letter_of, numbers_of, line_with, writing, Right, CallRead, NoCall}
+use Rattle.calls.specs.Calls.{byte_of, letter_of, numbers_of, line_with, writing}
 use Rattle.text.specs.Form.{spaced, AllSmall}
 use Rattle.text.specs.Lines.{up_to, line_of, after_line}
 use Rattle.text.proofs.Decimals.{Figures, decimal_figures}

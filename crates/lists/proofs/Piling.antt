@@ -1,6 +1,6 @@
 -- The pile that a list runs on, as it is seen.
 -- Assumes nothing.
-use Rattle.std.proofs.Common.{◌≡◌, ℕ, zero, suc, ◌≤◌, min, List, [], ◌∷◌, ◌++◌, map, length, take, drop, replicate, None, Option, sym, refl, ap, ◌∙◌, append-nil, arith, take_all}
+use Rattle.std.proofs.Common.{◌≡◌, ℕ, zero, suc, ◌≤◌, min, List, ◌∷◌, ◌++◌, length, drop, replicate, None, sym, refl, ap, ◌∙◌, append-nil, arith, take_all}
 use lib.ListN.{length-replicate}
 use Rattle.std.proofs.lemmas.List.{drop_all}
 use Rattle.stores.specs.declared.chain.ChainStore.{ChainStore}
@@ -10,10 +10,9 @@ use Rattle.stores.specs.Fault.{existing}
 use Rattle.stores.specs.Store.{most, reached, extent}
 use Rattle.layers.specs.declared.allowance.Allowance.{Allowance}
 use Rattle.layers.specs.declared.behind.WriteBehind.{WriteBehind}
-use Rattle.layers.specs.declared.held.Held.{Held}
 use Rattle.layers.specs.declared.lent.Lent.{Lent}
 use Rattle.layers.specs.Layers.{allowance_verdict, covered, held_verdict}
-use Rattle.writes.specs.Pile.{Gauge, gauge_of, pile_verdict}
+use Rattle.writes.specs.Pile.{gauge_of, pile_verdict}
 use Rattle.writes.proofs.Sinks.{pile_cells}
 use Rattle.lists.specs.Running.{Pile, new_pile}
 

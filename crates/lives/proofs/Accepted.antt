@@ -1,14 +1,14 @@
 -- The calls of one life are accepted where nothing else holds the cell.
 -- Assumes nothing.
-use Rattle.std.proofs.Common.{◌≡◌, ℕ, suc, ◌+◌, ◌<◌, ◌≤◌, Bool, true, false, cond, not, ◌&&◌, ◌||◌, eqb, ltb, leb, ◌⊎◌, List, [], ◌∷◌, length, Some, None, Ok, Err, Option, Result, sym, refl, ap, ◌∙◌, subst, inl, inr, arith}
+use Rattle.std.proofs.Common.{◌≡◌, ℕ, suc, ◌+◌, ◌<◌, ◌≤◌, Bool, true, false, cond, not, ◌&&◌, ◌||◌, eqb, ltb, leb, ◌⊎◌, List, [], ◌∷◌, length, Some, None, Option, sym, refl, ap, ◌∙◌, subst, inl, inr, arith}
 use Rattle.std.proofs.lemmas.Bool.{and_from, or_right, cases_eq, ne_eqb, cond-true, cond-false, lt-ltb, le-ltb, le-leb, lt-leb, not_from_false, and_right, cases_lt}
 use Rattle.kinds.specs.declared.deed.Deed.TheVariants.{Updating}
 use Rattle.kinds.specs.declared.holding.Holding.{Holding}
 use Rattle.kinds.specs.declared.kind.Kind.TheVariants.{Inout, Concurrent}
 use Rattle.order.specs.declared.state.State.{State}
-use Rattle.order.specs.declared.state.State.TheVariants.{Created, Running, Waiting, Finished}
-use Rattle.kinds.specs.Kinds.{strongly, covers, conflict, meets, if_strong, allows, covered_by, is_commutative, within, asked, combine_held, holding_of}
-use Rattle.order.specs.Questions.{Call, create, start, finish, step, all_yes, questions, after, newborn, turned, put, put_task, no_earlier_conflict, commutative_free, no_descendant_conflict, most_tasks, regions_lie}
+use Rattle.order.specs.declared.state.State.TheVariants.{Created, Running, Finished}
+use Rattle.kinds.specs.Kinds.{strongly, covers, meets, if_strong, allows, covered_by, is_commutative, within, asked, combine_held}
+use Rattle.order.specs.Questions.{create, start, finish, step, all_yes, after, newborn, turned, put_task, no_earlier_conflict, commutative_free, no_descendant_conflict, most_tasks}
 use Rattle.order.specs.Tasks.{Task, World, is_created, is_running, is_finished, count, state_of, path, above, parts_lower, ancestor, earlier, holds, let_go, every_cell, deeply_complete, new}
 use Rattle.order.specs.View.{root}
 use Rattle.order.proofs.Deeply.{holds_unfinished}

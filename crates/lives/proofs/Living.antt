@@ -1,6 +1,6 @@
 -- One life on an engine, call by call.
 -- Assumes nothing.
-use Rattle.std.proofs.Common.{◌≡◌, ℕ, ◌<◌, true, false, List, [], ◌∷◌, get_or, None, Ok, Err, Result, sym, refl, ap, ◌∙◌, subst, arith, Bor}
+use Rattle.std.proofs.Common.{◌≡◌, ℕ, ◌<◌, true, false, List, [], ◌∷◌, get_or, None, Ok, Err, Result, sym, ap, ◌∙◌, subst, arith, Bor}
 use Rattle.kinds.specs.declared.access.Access.{Access}
 use Rattle.kinds.specs.declared.deed.Deed.TheVariants.{Updating}
 use Rattle.order.specs.declared.state.State.TheVariants.{Created, Running}

@@ -1,6 +1,6 @@
 -- An engine on which a task can live on one cell beside others that keep away from it.
 -- Assumes nothing.
-use Rattle.std.specs.Prelude.{◌≡◌, ℕ, ◌+◌, ◌*◌, ◌<◌, Bool, true, false, cond, ◌&&◌, ◌⊎◌, [], ◌∷◌, None, ◌≢◌, nat_le}
+use Rattle.std.specs.Prelude.{◌≡◌, ℕ, ◌+◌, ◌<◌, Bool, true, false, ◌&&◌, ◌⊎◌, [], ◌∷◌, None, ◌≢◌, nat_le}
 use Rattle.kinds.specs.declared.access.Access.{Access}
 use Rattle.order.specs.Questions.{create, after, most_tasks}
 use Rattle.order.specs.Tasks.{Task, World, is_finished, count}

@@ -1,14 +1,13 @@
 -- One record more, that of a new child: the records stay sound, and read as the world with a new task.
 -- Assumes nothing.
-use Rattle.std.proofs.Common.{◌≡◌, ℕ, zero, suc, ◌+◌, ◌<◌, ◌≤◌, Bool, true, false, cond, not, ◌&&◌, eqb, ltb, leb, ◌⊎◌, List, [], ◌∷◌, ◌++◌, map, length, get_or, set, sym, refl, ap, ◌∙◌, subst, inl, inr, add-zero, add-one, arith}
+use Rattle.std.proofs.Common.{◌≡◌, ℕ, zero, suc, ◌+◌, ◌<◌, ◌≤◌, Bool, true, false, cond, not, ◌&&◌, eqb, ltb, leb, ◌⊎◌, List, [], ◌∷◌, ◌++◌, map, length, get_or, set, sym, refl, ap, ◌∙◌, subst, inl, inr, add-one, arith}
 use mathlib.Core.Path.{fun_ext}
 use Rattle.std.proofs.lemmas.List.{get_or_append_left, get_or_push, get_or_past, length-map, length_push, length-set, map_push}
 use Rattle.std.proofs.lemmas.Bool.{and_left, and_parts, cases_eq, cases_lt, cond-true, cond-false, eq-eqb, lt-ltb, ltb-true, ne_eqb}
 use Rattle.kinds.specs.declared.access.Access.{Access}
-use Rattle.order.specs.declared.runs.Runs.{Runs}
 use Rattle.order.specs.declared.state.State.TheVariants.{Created}
 use Rattle.order.specs.declared.task.Task.{Task}
-use Rattle.order.specs.Asked.{running_questions, create_questions, Asks}
+use Rattle.order.specs.Asked.{running_questions, create_questions}
 use Rattle.order.specs.Counting.{with_open}
 use Rattle.order.specs.Holdings.{held, in_use}
 use Rattle.kinds.specs.Kinds.{asked}
@@ -26,14 +25,14 @@ use Rattle.order.specs.Questions.{
   regions_lie,
   task_exists,
 }
-use Rattle.order.specs.Records.{Sound, tally, parent_at, open_at, complete, complete_at, open_child, reach_at}
+use Rattle.order.specs.Records.{Sound, tally, parent_at, open_at, complete, complete_at, open_child}
 use Rattle.order.specs.Stretches.{end_by}
 use Rattle.order.specs.Tasks.{World, count, is_finished, is_running, state_of}
 use Rattle.order.specs.View.{task_of, world_of}
 use Rattle.order.proofs.Answering.{all_accepted, all_running_yes, running_parts}
 use Rattle.order.proofs.Changing.{map_kept, view_push, world_same}
 use Rattle.order.proofs.Tallies.{open_here, open_other, tally_same, tally_zero}
-use Rattle.order.proofs.Turning.{runs_reach, running_within, running_unfinished, state_read}
+use Rattle.order.proofs.Turning.{running_within, running_unfinished, state_read}
 use Rattle.order.proofs.Viewed.{count_of, read_at}
 
 -- what is read of a list with one element more

@@ -1,14 +1,13 @@
 -- The records of all tasks read as a world: what one record more, or another record, makes of it.
 -- Assumes nothing.
-use Rattle.std.proofs.Common.{◌≡◌, ℕ, zero, suc, ◌+◌, ◌-◌, ◌<◌, ◌≤◌, Bool, true, false, cond, eqb, ltb, ◌⊎◌, List, [], ◌∷◌, ◌++◌, map, reverse, length, get_or, drop, set, sym, refl, ap, ◌∙◌, subst, inl, inr, arith}
+use Rattle.std.proofs.Common.{◌≡◌, ℕ, ◌<◌, ◌≤◌, eqb, ◌⊎◌, List, [], ◌∷◌, ◌++◌, map, reverse, length, get_or, drop, set, sym, ap, ◌∙◌, inl, inr, arith}
 use mathlib.Core.Path.{fun_ext}
-use Rattle.std.proofs.lemmas.List.{map-set, map_push, set-get_or, get_or-map, get_or-set_same, get_or-set_other, get_or_append_left, get_or_push, get_or_past, length-map, length-drop, length-reverse, length_push, drop-append-le, reverse-append}
+use Rattle.std.proofs.lemmas.List.{map-set, map_push, set-get_or, get_or-set_same, get_or-set_other, get_or_append_left, get_or_push, get_or_past, length-map, length_push, drop-append-le, reverse-append}
 use Rattle.std.proofs.lemmas.Bool.{cases_eq, cases_lt, eq-eqb, ne_eqb, cond-true, cond-false}
-use Rattle.order.specs.declared.state.State.{State}
 use Rattle.order.specs.declared.task.Task as code
 use Rattle.order.specs.Questions.{put, put_task}
 use Rattle.order.specs.Records.{parent_at}
-use Rattle.order.specs.Tasks.{Task, World, count, state_of}
+use Rattle.order.specs.Tasks.{Task}
 use Rattle.order.specs.View.{task_of, root, world_of}
 
 -- the world hangs on the parents and the tasks alone

@@ -1,12 +1,12 @@
 -- How the tallies of open children follow one change of one record.
 -- Assumes nothing.
-use Rattle.std.proofs.Common.{◌≡◌, ℕ, zero, suc, ◌+◌, ◌-◌, ◌<◌, ◌≤◌, Bool, true, false, cond, not, ◌&&◌, ◌||◌, eqb, ltb, ◌⊎◌, List, [], ◌∷◌, ◌++◌, map, length, get_or, set, sym, refl, ap, ◌∙◌, subst, inl, inr, add-zero, arith}
+use Rattle.std.proofs.Common.{◌≡◌, ℕ, zero, suc, ◌+◌, ◌-◌, ◌<◌, Bool, true, false, cond, not, ◌&&◌, eqb, ltb, ◌⊎◌, List, [], ◌∷◌, map, length, get_or, set, sym, refl, ap, ◌∙◌, subst, inl, inr, add-zero, arith}
 use Rattle.std.proofs.lemmas.List.{map-set, get_or-map, get_or-set_same, get_or-set_other, get_or_default, length-map, length-set}
 use Rattle.std.proofs.lemmas.Bool.{cases_eq, and_from, and_left, and_right, eq-eqb, ne_eqb, lt-ltb, le-ltb, cond-true, cond-false}
 use Rattle.order.specs.declared.task.Task.{Task}
 use Rattle.order.specs.Counting.{with_open, uncounted, Older, Counted, Untold}
 use Rattle.order.specs.Records.{tally, parent_at, open_at, complete, complete_at, open_child}
-use Rattle.order.specs.Tasks.{every, is_finished}
+use Rattle.order.specs.Tasks.{is_finished}
 use Rattle.order.proofs.Changing.{map_kept}
 use Rattle.order.proofs.Viewed.{read_at}
 

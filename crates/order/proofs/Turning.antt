@@ -1,9 +1,9 @@
 -- One task turned to another state, or made to let go: what the records then say, and that they stay sound.
 -- Assumes nothing.
-use Rattle.std.proofs.Common.{◌≡◌, ℕ, ◌+◌, ◌<◌, ◌≤◌, Bool, true, false, cond, not, ◌&&◌, ◌||◌, eqb, ltb, leb, ◌⊎◌, List, [], ◌∷◌, map, length, get_or, set, Ok, Err, Option, Result, sym, refl, ap, ◌∙◌, subst, inl, inr, add-zero, arith, MatchResult}
+use Rattle.std.proofs.Common.{◌≡◌, ℕ, ◌+◌, ◌<◌, ◌≤◌, Bool, true, false, cond, not, ◌&&◌, ◌||◌, eqb, ltb, leb, ◌⊎◌, List, [], ◌∷◌, map, length, get_or, set, Ok, Err, Option, Result, sym, refl, ap, ◌∙◌, subst, inl, inr, arith, MatchResult}
 use mathlib.Core.Path.{fun_ext}
 use Rattle.std.proofs.lemmas.List.{map-set, set-get_or, get_or-set_same, get_or-set_other, length-map, length-set}
-use Rattle.std.proofs.lemmas.Bool.{cases_eq, cases_lt, cases_Bool, and_left, lt-ltb, le-ltb, ltb-true, cond-true, cond-false}
+use Rattle.std.proofs.lemmas.Bool.{cases_eq, cases_lt, cases_Bool, and_left, lt-ltb, le-ltb, ltb-true}
 use Rattle.kinds.specs.declared.holding.Holding.{Holding}
 use Rattle.order.specs.declared.refusal.Refusal.{Refusal}
 use Rattle.order.specs.declared.refusal.Refusal.TheVariants.{NoSuchTask, WrongState, EarlierConflict, CommutativeBusy, ChildrenOpen, BadRegion, NotHeld, TooManyRuns}
@@ -17,7 +17,7 @@ use Rattle.order.specs.Counting.{uncounted, Older, Counted, Untold}
 use Rattle.order.specs.Holdings.{held, in_use}
 use Rattle.kinds.specs.Kinds.{is_held, within}
 use Rattle.order.specs.Questions.{Question, ask, first_number, first_no, task_exists, region_lies, release, lightened, without, run_count, most_runs, no_earlier_conflict, commutative_free, children_complete, start, finish, wait, resume, put_task, turned}
-use Rattle.order.specs.Records.{Sound, tally, parent_at, open_at, complete, complete_at, open_child, reach_at}
+use Rattle.order.specs.Records.{Sound, tally, parent_at, complete, complete_at, open_child, reach_at}
 use Rattle.order.specs.Refusals.{refusal_number}
 use Rattle.order.specs.Stretches.{end_by}
 use Rattle.order.specs.Tasks as tasks

@@ -1,5 +1,5 @@
 -- What a task's runs hold of each cell.
-use Rattle.std.specs.Prelude.{◌≡◌, ℕ, Bool, true, List, take, Option}
+use Rattle.std.specs.Prelude.{◌≡◌, ℕ, true, List, take, Option}
 use Rattle.kinds.specs.declared.holding.Holding.{Holding}
 use Rattle.order.specs.declared.run.Run.{Run}
 use Rattle.order.specs.declared.runs.Runs.{Runs}

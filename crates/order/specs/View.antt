@@ -1,5 +1,5 @@
 -- A table read as the tasks of the rules, and what its calls answer and make of them.
-use Rattle.std.specs.Prelude.{◌≡◌, ℕ, Bool, true, false, cond, List, map, reverse, drop, None, Ok, Err, vec_items, Result, nat_lt, slice_index_or}
+use Rattle.std.specs.Prelude.{◌≡◌, ℕ, true, false, cond, List, map, reverse, drop, None, Ok, Err, vec_items, Result, nat_lt, slice_index_or}
 use Rattle.kinds.specs.declared.kind.Kind.TheVariants.{Inout}
 use Rattle.order.specs.declared.refusal.Refusal.{Refusal}
 use Rattle.order.specs.declared.state.State.TheVariants.{Running}

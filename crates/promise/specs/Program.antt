@@ -1,7 +1,7 @@
 -- Histories, their program order, and carrying out steps on a plain list of cells.
 -- V is the type of what a cell holds.
 -- Assumes nothing.
-use Rattle.std.specs.Prelude.{◌≡◌, ℕ, suc, Bool, cond, List, [], ◌∷◌, ◌++◌, set, ◌==◌, slice_index_or, slice_set}
+use Rattle.std.specs.Prelude.{◌≡◌, ℕ, suc, Bool, cond, List, [], ◌∷◌, ◌++◌, ◌==◌, slice_index_or, slice_set}
 use Rattle.kinds.specs.declared.deed.Deed.{Deed}
 use Rattle.kinds.specs.declared.deed.Deed.TheVariants.{Reading, Writing, Updating}
 use Rattle.order.specs.Questions.{Call, create, start, finish, wait, resume, release, step, look, ready}

@@ -1,6 +1,6 @@
 -- A run's history goes by the order rules, and so keeps their promise.
 -- Assumes nothing.
-use Rattle.std.proofs.Common.{◌≡◌, ℕ, Bool, true, false, cond, ◌&&◌, List, [], ◌∷◌, ◌++◌, length, Some, None, Ok, Err, Result, sym, refl, ap, ◌∙◌, subst, arith}
+use Rattle.std.proofs.Common.{◌≡◌, ℕ, Bool, true, false, cond, ◌&&◌, List, [], ◌∷◌, ◌++◌, length, Ok, Err, Result, sym, refl, ap, subst, arith}
 use Rattle.kinds.specs.declared.deed.Deed.TheVariants.{Reading, Writing, Updating}
 use Rattle.order.specs.declared.refusal.Refusal as order
 use Rattle.order.specs.declared.refusal.Refusal.TheVariants.{
@@ -44,7 +44,7 @@ use Rattle.order.specs.Tasks.{World, new, deeply_complete}
 use Rattle.stores.specs.Fault.{Verdict}
 use Rattle.promise.specs.Program.{Entry}
 use Rattle.promise.specs.Promise.{Commutes, GoesOn}
-use Rattle.promise.specs.Runs.{store_number, store_questions, all_questions, world, cells_after, Runs}
+use Rattle.promise.specs.Runs.{store_number, all_questions, world, cells_after, Runs}
 use Rattle.promise.proofs.Replay.{in_program_order}
 use Rattle.promise.proofs.Progress.{never_stuck}
 use Rattle.engine.specs.declared.call.Call.{Call}
@@ -65,22 +65,7 @@ use Rattle.engine.specs.declared.call.Reply.{Reply}
 use Rattle.engine.specs.declared.call.Turn.{Turn}
 use Rattle.engine.specs.declared.refusal.Refusal.{Refusal}
 use Rattle.engine.specs.declared.refusal.Refusal.TheVariants.{Rule, Store}
-use Rattle.engine.specs.Numbers.{number_of}
-use Rattle.engine.specs.Run.{
-  shape,
-  given,
-  is_open,
-  verdict_on,
-  was_open,
-  entry_of,
-  history,
-  Stored,
-  One,
-  Ran,
-  RanNew,
-  Promised,
-  Settled,
-}
+use Rattle.engine.specs.Run.{shape, given, is_open, verdict_on, entry_of, history, Stored, One, Ran, RanNew, Promised, Settled}
 
 -- the store's number is no rule's
 not_store : (why : order.Refusal) → store_number ≡ refusal_number why → ⊥

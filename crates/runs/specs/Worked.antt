@@ -1,5 +1,5 @@
 -- Worked cases of the order rules, and of the rules over spans.
-use Rattle.std.specs.Prelude.{◌≡◌, List, [], ◌∷◌}
+use Rattle.std.specs.Prelude.{List, [], ◌∷◌}
 use Rattle.elements.specs.declared.span.Span.{Span}
 use Rattle.elements.specs.Element.{span_of, span_rest, span_updated}
 use Rattle.kinds.specs.declared.deed.Deed.TheVariants.{Reading, Updating}

@@ -1,5 +1,5 @@
 -- What a write does to the cells of a chain store.
-use Rattle.std.proofs.Common.{◌≡◌, ℕ, zero, suc, ◌+◌, ◌-◌, ◌<◌, ◌≤◌, ◌≢◌, List, [], ◌∷◌, ◌++◌, map, length, get_or, take, drop, set, replicate, sym, refl, ap, ◌∙◌, ⊎_elim, append-nil, add-one, arith, take_all, get_or-set_other, get_or-set_same, take_at}
+use Rattle.std.proofs.Common.{◌≡◌, ℕ, zero, suc, ◌+◌, ◌-◌, ◌<◌, ◌≤◌, ◌≢◌, List, [], ◌∷◌, ◌++◌, map, length, get_or, take, drop, set, replicate, refl, ap, ◌∙◌, ⊎_elim, append-nil, add-one, arith, take_all, get_or-set_other, get_or-set_same, take_at}
 use lib.ListN.{length-map, length-replicate}
 use lib.Seq.{map-set}
 use Rattle.std.proofs.lemmas.List.{drop_all}

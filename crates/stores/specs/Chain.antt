@@ -1,5 +1,5 @@
 -- The chain store: each cell is the chain of its records, the newest first.
-use Rattle.std.specs.Prelude.{◌≡◌, ℕ, zero, suc, ◌+◌, ◌≤◌, cond, List, ◌++◌, map, length, drop, replicate, Some, None, nat_lt, slice_index, slice_index_or, slice_set, refl}
+use Rattle.std.specs.Prelude.{◌≡◌, ℕ, zero, suc, ◌+◌, ◌≤◌, cond, List, ◌++◌, map, length, drop, replicate, Some, None, nat_lt, slice_index, slice_index_or, slice_set}
 use Rattle.std.proofs.lemmas.List.{length-map}
 use Rattle.stores.specs.declared.fault.Cause.TheVariants.{RecordsUsedUp, NoSuchCell}
 use Rattle.stores.specs.declared.record.Record.{Record}

@@ -1,5 +1,5 @@
 -- What an accepted write makes of a pile's numbers, and of a chain store's memory.
-use Rattle.std.proofs.Common.{◌≡◌, ℕ, ◌+◌, ◌-◌, min, cond, eqb, List, length, Some, None, Option, sym, refl, ap, ◌∙◌, ⊎_elim, arith, length-set}
+use Rattle.std.proofs.Common.{◌≡◌, ℕ, ◌+◌, ◌-◌, min, List, length, Some, None, Option, sym, ap, ◌∙◌, ⊎_elim, arith, length-set}
 use Rattle.std.proofs.lemmas.Bool.{cases_eq, eq-eqb, ne_eqb}
 use Rattle.layers.specs.declared.allowance.Allowance.{Allowance}
 use Rattle.layers.specs.declared.behind.WriteBehind.{WriteBehind}
@@ -11,7 +11,7 @@ use Rattle.stores.specs.Chain.{Linked, head_values, head_values_length}
 use Rattle.layers.specs.Layers.{Sank, covered, covered_length}
 use Rattle.stores.specs.declared.record.Record.{Record}
 use Rattle.writes.specs.Lender.{Chains, chained}
-use Rattle.writes.specs.Pile.{Gauge, gauge_of, taken, after_write}
+use Rattle.writes.specs.Pile.{gauge_of, taken, after_write}
 
 abbrev Links : {V : Type 0} → ChainStore V → ℕ → V → ChainStore V → Type 0
 Links s i v t = Linked s.heads.now s.records.now s.used i v t.heads.now t.records.now t.used

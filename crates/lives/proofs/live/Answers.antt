@@ -1,8 +1,6 @@
-use Rattle.std.proofs.Common.{◌≡◌, suc, true, get_or, set, is_ok, None, sym, refl, ap, ◌∙◌, subst, add-one}
-use Rattle.order.specs.declared.state.State.TheVariants.{Created}
+use Rattle.std.proofs.Common.{◌≡◌, suc, is_ok, None, sym, ap, ◌∙◌, add-one}
 use Rattle.order.specs.Tasks.{count}
 use Rattle.order.specs.View.{view}
-use Rattle.lives.proofs.Accepted.{Living}
 use Rattle.lives.proofs.Living.{not_refused, created, start_goes, update_goes, finish_goes, put_carried}
 use Rattle.lives.proofs.live.Goals as goal
 

@@ -1,5 +1,5 @@
-use Rattle.std.proofs.Common.{◌≡◌, ℕ, suc, ◌%◌, ◌<◌, List, length, None, sym, refl, ap, ◌∙◌, subst, add-one, arith}
-use Rattle.order.specs.Tasks.{World, count}
+use Rattle.std.proofs.Common.{◌≡◌, suc, ◌%◌, ◌<◌, List, length, None, sym, ap, ◌∙◌, subst, add-one, arith}
+use Rattle.order.specs.Tasks.{count}
 use Rattle.order.specs.View.{view}
 use Rattle.stores.specs.Fault.{existing_below}
 use Rattle.stores.specs.Store.{reached, reached_length}

@@ -1,7 +1,7 @@
 use Rattle.std.proofs.Common.{true, false, sym, subst, eqb-true}
 use borrow.Author.Tests.{eqb-false}
 use Rattle.std.proofs.lemmas.Result.{err_from_is_err_and}
-use Rattle.text.specs.declared.unread.Unread.TheVariants.{NoLineEnd, UnknownLetter}
+use Rattle.text.specs.declared.unread.Unread.TheVariants.{NoLineEnd}
 use Rattle.calls.specs.Calls.{NoCall}
 use Rattle.calls.proofs.Whole.{refused, unknown, bad, miscounted, judged, counted_same}
 use Rattle.calls.proofs.line.read_call.Goals as goal

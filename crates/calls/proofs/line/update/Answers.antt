@@ -1,4 +1,4 @@
-use Rattle.std.proofs.Common.{◌≡◌, true, drop, is_some, sym, refl, ◌∙◌, arith, rules}
+use Rattle.std.proofs.Common.{◌≡◌, true, drop, is_some, refl, ◌∙◌, arith, rules}
 use Rattle.std.proofs.lemmas.List.{take_rest}
 use Rattle.calls.proofs.Makes.{two_and, made_none, made_some}
 use Rattle.calls.proofs.line.update.Goals as goal

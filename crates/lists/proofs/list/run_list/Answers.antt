@@ -1,8 +1,8 @@
-use Rattle.std.proofs.Common.{◌≡◌, ◌≤◌, length, string_bytes, sym, ap, ◌∙◌, subst, arith}
+use Rattle.std.proofs.Common.{length, string_bytes, ap, ◌∙◌, subst, arith}
 use Rattle.std.proofs.lemmas.Result.{IfOk-weaker}
 use Rattle.calls.specs.Header.{HeaderRead, NoHeader}
 use Rattle.text.specs.Lines.{line_of, after_line}
-use Rattle.lists.specs.Printing.{Printed, headless, headed, BodyOf}
+use Rattle.lists.specs.Printing.{headless, headed, BodyOf}
 use Rattle.lists.proofs.Onward.{after_fits}
 use Rattle.lists.proofs.list.run_list.Goals as goal
 

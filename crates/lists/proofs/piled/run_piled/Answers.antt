@@ -1,7 +1,7 @@
 use Rattle.std.proofs.Common.{refl}
 use Rattle.order.specs.View.{view}
 use Rattle.writes.proofs.Sinks.{pile_moves}
-use Rattle.lists.specs.Running.{values_of, verdict_of, gauged, new_pile}
+use Rattle.lists.specs.Running.{values_of, verdict_of, gauged}
 use Rattle.lists.proofs.Mapped.{ran_seen, promised_seen}
 use Rattle.lists.proofs.Piling.{shown, made_shown, seen_verdict}
 use Rattle.lists.proofs.piled.run_piled.Goals as goal

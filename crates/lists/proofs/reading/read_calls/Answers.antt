@@ -1,4 +1,4 @@
-use Rattle.std.proofs.Common.{not, sym, refl, subst, arith}
+use Rattle.std.proofs.Common.{subst, arith}
 use Rattle.text.specs.Unread.{Stopped}
 use Rattle.calls.specs.Calls.{NoCall}
 use Rattle.lists.proofs.Onward.{after_shorter, some_tested, none_tested, so_far_more, so_far_all, stopped_at}

@@ -1,4 +1,4 @@
-use Rattle.std.proofs.Common.{◌≤◌, length, arith, take_all}
+use Rattle.std.proofs.Common.{◌≤◌, length, take_all}
 use Rattle.lists.proofs.Lending.{lent_more}
 use Rattle.lists.proofs.turns.turns_of.Goals as goal
 

@@ -1,4 +1,4 @@
-use Rattle.std.proofs.Common.{sym, ◌∙◌, inl, inr, arith}
+use Rattle.std.proofs.Common.{sym, ◌∙◌, inr}
 use Rattle.std.proofs.lemmas.List.{get_or-map}
 use Rattle.order.specs.Records.{complete}
 use Rattle.order.proofs.Tallies.{up_lower, up_within, up_counts, up_told, all_told}

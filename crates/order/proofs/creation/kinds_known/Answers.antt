@@ -1,4 +1,4 @@
-use Rattle.std.proofs.Common.{sym, refl, ap, ◌∙◌}
+use Rattle.std.proofs.Common.{sym, ap, ◌∙◌}
 use Rattle.kinds.specs.Kinds.{is_held}
 use Rattle.order.proofs.Creating.{some_held, stops, goes_on, kinds_more, kinds_end}
 use Rattle.order.proofs.creation.kinds_known.Goals as goal

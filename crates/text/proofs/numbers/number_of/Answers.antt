@@ -1,6 +1,5 @@
-use Rattle.std.proofs.Common.{◌≡◌, ℕ, ◌+◌, ◌-◌, ◌*◌, ◌^◌, ◌<◌, ◌≤◌, length, get_or, sym, inl, inr, arith, eqb-true}
+use Rattle.std.proofs.Common.{◌≡◌, ◌+◌, ◌-◌, ◌*◌, length, get_or, sym, inl, inr, arith, eqb-true}
 use borrow.Author.Tests.{eqb-false}
-use Rattle.text.specs.Form.{DigitsRead}
 use Rattle.text.proofs.Decimals.{reading_on, no_digit, too_large, read_whole, decimal_first}
 use Rattle.text.proofs.numbers.number_of.Goals as goal
 use Rattle.text.proofs.numbers.number_of.Goals.{then-b-lt48-via-then-b-lt48, then-b-lt48-via-else-b-lt48+then-b-gt57}

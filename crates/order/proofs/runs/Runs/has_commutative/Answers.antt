@@ -1,4 +1,4 @@
-use Rattle.std.proofs.Common.{◌≡◌, true, not, Some, sym, refl, ap, ◌∙◌}
+use Rattle.std.proofs.Common.{◌≡◌, not, Some, sym, refl, ap, ◌∙◌}
 use Rattle.kinds.specs.declared.kind.Kind.{Kind}
 use Rattle.kinds.specs.declared.kind.Kind.TheVariants.{In, Out, Inout, Concurrent, Commutative}
 use Rattle.kinds.specs.Kinds.{is_commutative, same}

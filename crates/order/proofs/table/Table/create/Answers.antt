@@ -1,7 +1,6 @@
-use Rattle.std.proofs.Common.{List, sym, refl, ap, ◌∙◌, subst, arith}
+use Rattle.std.proofs.Common.{sym, refl, ap, ◌∙◌, subst, arith}
 use Rattle.std.proofs.lemmas.Result.{err_from_is_err_and, IfOk-from_err}
 use Rattle.order.specs.declared.state.State.TheVariants.{Created}
-use Rattle.order.specs.declared.task.Task.{Task}
 use Rattle.order.specs.Questions.{create}
 use Rattle.order.specs.Records.{Sound}
 use Rattle.order.specs.View.{view, world_of}

@@ -1,4 +1,4 @@
-use Rattle.std.proofs.Common.{sym, refl, ap, ◌∙◌}
+use Rattle.std.proofs.Common.{sym, ◌∙◌}
 use Rattle.order.specs.View.{view}
 use Rattle.order.proofs.Creating.{stops, goes_on, regions_more, regions_end}
 use Rattle.order.proofs.table.Table.has_regions.Goals as goal

@@ -1,7 +1,6 @@
-use Rattle.std.proofs.Common.{◌≡◌, sym, ap, ◌∙◌}
+use Rattle.std.proofs.Common.{sym, ◌∙◌}
 use Rattle.std.proofs.lemmas.Result.{err_from_is_err_and}
 use Rattle.order.specs.declared.refusal.Refusal.TheVariants.{NoSuchTask}
-use Rattle.order.specs.View.{view}
 use Rattle.order.proofs.Answering.{refused_number}
 use Rattle.order.proofs.Turning.{unknown_running, not_running, all_running}
 use Rattle.order.proofs.table.Table.running.Goals as goal

@@ -1,4 +1,3 @@
-use Rattle.std.proofs.Common.{sym}
 use Rattle.stores.proofs.Chains.{cleared_sound}
 use Rattle.stores.proofs.chain.ChainStore.new.Goals as goal
 

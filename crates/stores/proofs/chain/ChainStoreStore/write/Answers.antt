@@ -1,6 +1,5 @@
-use Rattle.std.proofs.Common.{◌≡◌, ◌<◌, length, set, arith, rules}
-use Rattle.stores.specs.Store.{reached, extent}
-use Rattle.stores.specs.Chain.{head_values}
+use Rattle.std.proofs.Common.{◌<◌, length, arith, rules}
+use Rattle.stores.specs.Store.{extent}
 use Rattle.stores.proofs.Chains.{linked_values}
 use Rattle.stores.proofs.chain.ChainStoreStore.write.Goals as goal
 

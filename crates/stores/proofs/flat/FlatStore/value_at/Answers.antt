@@ -1,5 +1,4 @@
-use Rattle.std.proofs.Common.{◌<◌, arith, ltb-false}
-use Rattle.stores.specs.Store.{extent}
+use Rattle.std.proofs.Common.{arith, ltb-false}
 use Rattle.stores.proofs.Reached.{reached_read}
 use Rattle.stores.proofs.flat.FlatStore.value_at.Goals as goal
 
