@@ -49,9 +49,9 @@ module _ {E : Type 0} (made : List ℕ → Option E) (xs ys : List ℕ) (same : 
   pub made_some : (v : E) → made xs ≡ Some v → is_some (made ys) ≡ true
   made_some v some = ap is_some (ap made (sym same) ∙ some)
 
-pub stopped_map : (s : Stop) (P Q : Unread → Type 0) → ((why : Unread) → P why → Q why) → (Q NoLineEnd → ⊥) → (Q UnknownLetter → ⊥) → Stopped s P → Stopped s Q
-stopped_map (No why) P Q f ended lettered p = f why p
-stopped_map Memory P Q f ended lettered p = (ended, lettered)
+pub stopped_map : (s : Stop) (P Q : Unread → Type 0) → ((why : Unread) → P why → Q why) → Stopped s P → Stopped s Q
+stopped_map (No why) P Q f p = f why p
+stopped_map Memory P Q f p = tt
 
 module _ {E : Type 0} (value_numbers : E → List ℕ) (made : List ℕ → Option E) (width : ℕ) (ns : List ℕ) (l : Letter) (pre : length ns ≡ needed width l ns) where
   -- a call of one number

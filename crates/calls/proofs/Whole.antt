@@ -73,20 +73,13 @@ module _ {E : Type 0} (value_numbers : E → List ℕ) (width : ℕ) (made : Lis
     unknown never = refused line UnknownLetter (front, ends, never)
 
     module _ (l : Letter) (tail : List ℕ) (begins : front ≡ byte_of l ∷ tail) where
-      lined : line ≡ byte_of l ∷ (tail ++ (10 ∷ []))
+      pub lined : line ≡ byte_of l ∷ (tail ++ (10 ∷ []))
       lined = ends ∙ ap (λ f. f ++ (10 ∷ [])) begins
-
-      -- the line has its end, and its letter
-      ended : NoCall value_numbers width made line NoLineEnd → ⊥
-      ended r = r.first front ends
-
-      lettered : NoCall value_numbers width made line UnknownLetter → ⊥
-      lettered r = r.first.2 l tail (append_cancel_right r.first.0 front (10 ∷ []) (sym r.first.1 ∙ ends) ∙ begins)
 
       pub bad : (s : Stop) → Stopped s (λ why. (why ≡ BadNumbers) × ((ns : List ℕ) → Writes tail ns → ⊥)) → Stopped s (NoCall value_numbers width made line)
       bad s stopped =
           stopped_map s _ (NoCall value_numbers width made line)
-          (λ why p. subst (NoCall value_numbers width made line) (sym p.0) (refused line BadNumbers (l, tail, lined, p.1))) ended lettered stopped
+          (λ why p. subst (NoCall value_numbers width made line) (sym p.0) (refused line BadNumbers (l, tail, lined, p.1))) stopped
 
       module _ (ns : List ℕ) (w : Writes tail ns) where
         numbered : line ≡ line_with l ns
@@ -108,4 +101,4 @@ module _ {E : Type 0} (value_numbers : E → List ℕ) (width : ℕ) (made : Lis
             })
             (λ s stopped.
             stopped_map s _ (NoCall value_numbers width made line)
-            (λ why p. subst (NoCall value_numbers width made line) (sym p.0) (refused line OutOfRange (l, ns, numbered, w.small, counted, p.1))) ended lettered stopped)
+            (λ why p. subst (NoCall value_numbers width made line) (sym p.0) (refused line OutOfRange (l, ns, numbered, w.small, counted, p.1))) stopped)

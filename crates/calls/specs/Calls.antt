@@ -139,6 +139,10 @@ pub record CallRead {E : Type 0} (value_numbers : E → List ℕ) (width : ℕ) 
   pub whole : line ≡ writing value_numbers w
   pub right : Right width made (letter_of w) (numbers_of value_numbers w)
 
+-- the line has its end and its letter
+abbrev pub Lettered : List ℕ → Type 0
+Lettered line = (l : Letter) × (tail : List ℕ) × (line ≡ byte_of l ∷ (tail ++ (10 ∷ [])))
+
 -- the line is refused for its first no, and is the writing of no call within the limits
 pub record NoCall {E : Type 0} (value_numbers : E → List ℕ) (width : ℕ) (made : List ℕ → Option E) (line : List ℕ) (why : Unread) : Type 0 where
   pub first : FirstNo width made line why

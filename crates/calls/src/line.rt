@@ -1,6 +1,6 @@
-ghost use Rattle.std.specs.Prelude.{◌≡◌, ℕ, List, [], ◌∷◌, ◌++◌, length, Some, None, MatchResult, ◌==◌, ◌≢◌};
-ghost use Rattle.calls.specs.Calls.{byte_of, needed, Fits, Made, CallRead, NoCall};
-ghost use Rattle.text.specs.Unread.{Stopped};
+ghost use Rattle.std.specs.Prelude.{◌≡◌, ℕ, List, [], ◌∷◌, ◌++◌, length, Some, None, IfErr, MatchResult, ◌==◌, ◌≢◌};
+ghost use Rattle.calls.specs.Calls.{byte_of, needed, Fits, Lettered, Made, CallRead, NoCall};
+ghost use Rattle.text.specs.Unread.{Stopped, Wanting};
 ghost use Rattle.calls.specs.declared.letter.Letter.TheVariants.{Create, Release, Read, Write, Update};
 ghost use Rattle.calls.specs.declared.letter.Letter.{Letter as Named};
 ghost use Rattle.text.specs.declared.unread.Unread.TheVariants.{NoLineEnd, UnknownLetter, OutOfRange};
@@ -13,9 +13,10 @@ use std::alloc::Global;
 use text::numbers::read_numbers;
 use text::unread::{Stop, Unread};
 
-// The call that the line writes.
+// The call that the line writes. Memory can be wanting only where the line has its end and its letter.
 pub fn read_call<E: Element>(heap: Global, line: &[u8]) -> Result<Written<E>, Stop>
-    ensures { MatchResult result (CallRead E.Element.numbers E.Element.width E.Element.made line.now) (λ s. Stopped s (NoCall E.Element.numbers E.Element.width E.Element.made line.now)) }
+    ensures read { MatchResult result (CallRead E.Element.numbers E.Element.width E.Element.made line.now) (λ s. Stopped s (NoCall E.Element.numbers E.Element.width E.Element.made line.now)) }
+    ensures wanting { IfErr result (λ s. Wanting s (Lettered line.now)) }
 {
     let front = front(line)?;
     let (letter, tail) = take_letter(front)?;

@@ -1,4 +1,4 @@
 pub mod Cuts
 pub mod Decimals
 pub mod Spaces
-pub mod Apart
+pub mod Stops

@@ -15,10 +15,10 @@ unread_number BadNumbers = 23
 unread_number WrongCount = 24
 unread_number OutOfRange = 25
 
--- what a stop says: a no is the question's, and memory is wanting only where the line's end and its letter have no no
+-- what a stop says, where it is not for want of memory
 abbrev pub Stopped : Stop → (Unread → Type 0) → Type 0
 Stopped (No why) P = P why
-Stopped Memory P = (P NoLineEnd → ⊥) × (P UnknownLetter → ⊥)
+Stopped Memory P = Unit {0}
 
 -- what holds where memory was wanting
 abbrev pub Wanting : Stop → Type 0 → Type 0

@@ -1,4 +1,4 @@
-ghost use Rattle.std.specs.Prelude.{◌≡◌, ℕ, List, [], MatchOption, MatchResult, ◌≢◌};
+ghost use Rattle.std.specs.Prelude.{◌≡◌, ℕ, List, [], IfErr, MatchOption, MatchResult, ◌≢◌};
 ghost use Rattle.text.specs.Form.{DigitsRead, Took, Writes};
 ghost use Rattle.text.specs.Unread.{Stopped, Wanting};
 ghost use Rattle.text.specs.declared.unread.Unread.TheVariants.{BadNumbers};
@@ -12,7 +12,8 @@ const SPACE: u8 = b' ';
 
 // The numbers that the bytes write, each after one space. Memory can be wanting only where there are bytes.
 pub fn read_numbers(heap: Global, bytes: &[u8]) -> Result<Vec<u64>, Stop>
-    ensures { MatchResult result (λ v. Writes bytes.now v.items) (λ s. Stopped s (λ why. (why ≡ BadNumbers) × ((ns : List ℕ) → Writes bytes.now ns → ⊥)) × Wanting s (bytes.now ≢ [])) }
+    ensures read { MatchResult result (λ v. Writes bytes.now v.items) (λ s. Stopped s (λ why. (why ≡ BadNumbers) × ((ns : List ℕ) → Writes bytes.now ns → ⊥))) }
+    ensures wanting { IfErr result (λ s. Wanting s (bytes.now ≢ [])) }
 {
     let mut numbers = Vec::new(heap);
     let mut rest = bytes;

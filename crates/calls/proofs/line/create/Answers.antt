@@ -2,10 +2,9 @@ use Rattle.std.proofs.Common.{◌≡◌, length, get_or, vec_items, sym, refl, a
 use Rattle.std.proofs.lemmas.List.{take_rest}
 use Rattle.std.proofs.lemmas.Result.{err_from_is_err_and}
 use Rattle.calls.specs.declared.letter.Letter.TheVariants.{Create}
-use Rattle.text.specs.declared.unread.Unread.TheVariants.{NoLineEnd, UnknownLetter, OutOfRange}
+use Rattle.text.specs.declared.unread.Unread.TheVariants.{OutOfRange}
 use Rattle.calls.specs.Calls.{AccessesFit, Fits}
 use Rattle.calls.proofs.Makes.{three_and, stopped_map}
-use Rattle.text.proofs.Apart.{apart}
 use Rattle.calls.proofs.line.create.Goals as goal
 
 pub returns-in_err-accesses : goal.returns-in_err-accesses
@@ -14,7 +13,7 @@ returns-in_err-accesses g c =
     rw (p.1, p.2)
     (stopped_map _ _ (λ why. (why ≡ OutOfRange) × (Fits g.E.Element.made Create c.args.numbers.now → ⊥))
     (λ why p. (p.0, λ f. p.1 (subst AccessesFit (sym (take_rest c.args.numbers.now 3)) f.3)))
-    (λ p. apart NoLineEnd OutOfRange (λ e. omega (arith, e)) p.0) (λ p. apart UnknownLetter OutOfRange (λ e. omega (arith, e)) p.0) c.in_err-accesses.ensures)
+    c.in_err-accesses.ensures)
 
 pub returns : goal.returns
 returns g c =

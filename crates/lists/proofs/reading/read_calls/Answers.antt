@@ -8,14 +8,14 @@ pub returns-in-Err : goal.returns-in-Err
 returns-in-Err g c =
     so_far_all _ _ _ _ _ _ _ _ c.loop-left.invariant.0
     (stopped_at _ _ _ _ _ _ _ (some_tested _ c.loop-left-test.ensures) c.take_line.ensures.line
-    (subst (λ s. Stopped s (NoCall g.E.Element.numbers g.E.Element.width g.E.Element.made c.take_line.result.0.bytes.now)) c.in_ok-why-in-Err.ensures c.in-Err.ensures))
+    (subst (λ s. Stopped s (NoCall g.E.Element.numbers g.E.Element.width g.E.Element.made c.take_line.result.0.bytes.now)) c.in_ok-why-in-Err.ensures c.in-Err.ensures.read))
 
 pub loop-left-smaller : goal.loop-left-smaller
 loop-left-smaller g c = rw c.take_line.ensures.rest (after_shorter _ (some_tested _ c.loop-left-test.ensures))
 
 pub loop-left-preserved : goal.loop-left-preserved
 loop-left-preserved g c = (
-  so_far_more _ _ _ _ _ _ _ _ _ _ _ (some_tested _ c.loop-left-test.ensures) c.take_line.ensures.line c.take_line.ensures.rest c.in-Ok.ensures c.in_ok-push-in-Ok.ensures.items c.loop-left.invariant.0,
+  so_far_more _ _ _ _ _ _ _ _ _ _ _ (some_tested _ c.loop-left-test.ensures) c.take_line.ensures.line c.take_line.ensures.rest c.in-Ok.ensures.read c.in_ok-push-in-Ok.ensures.items c.loop-left.invariant.0,
   omega (arith, c.loop-left.invariant.1, loop-left-smaller g c),
 )
 

@@ -1,14 +1,12 @@
 use Rattle.std.proofs.Common.{sym, refl, subst, arith, eqb-true}
 use borrow.Author.Tests.{eqb-false}
 use Rattle.text.proofs.Spaces.{ReadingOn, reading_more, reading_all, reading_bad, reading_some, took_shorter}
-use Rattle.text.proofs.Apart.{apart}
-use Rattle.text.specs.declared.unread.Unread.TheVariants.{NoLineEnd, UnknownLetter, BadNumbers}
 use Rattle.std.proofs.lemmas.Result.{err_from_is_err_and}
 use Rattle.text.proofs.numbers.read_numbers.Goals as goal
 
 pub returns-in_default : goal.returns-in_default
 returns-in_default c =
-    ((refl, reading_bad _ _ _ c.loop-rest.invariant (eqb-false _ _ (sym c.loop-rest-test.ensures)) c.in_default.ensures), tt)
+    record { read = (refl, reading_bad _ _ _ c.loop-rest.invariant (eqb-false _ _ (sym c.loop-rest-test.ensures)) c.in_default.ensures); wanting = tt }
 
 pub loop-rest-smaller : goal.loop-rest-smaller
 loop-rest-smaller c = took_shorter _ _ _ c.in-Some.ensures
@@ -19,12 +17,12 @@ loop-rest-preserved c =
     (reading_more _ _ _ _ _ c.loop-rest.invariant c.in-Some.ensures)
 
 pub returns : goal.returns
-returns c = reading_all _ _ _ c.loop-rest.invariant (eqb-true _ _ (sym c.loop-rest-test.ensures))
+returns c = record { read = reading_all _ _ _ c.loop-rest.invariant (eqb-true _ _ (sym c.loop-rest-test.ensures)); wanting = tt }
 
 pub returns-in_err-push : goal.returns-in_err-push
 returns-in_err-push c =
     let p = err_from_is_err_and c.from_residual.result c.from_residual.ensures.1 in
-    rw (p.1, p.2) (
-      (λ q. apart NoLineEnd BadNumbers (λ e. omega (arith, e)) q.0, λ q. apart UnknownLetter BadNumbers (λ e. omega (arith, e)) q.0),
-      reading_some _ _ _ _ _ c.loop-rest.invariant c.in-Some.ensures,
-    )
+    record {
+      read = rw (p.1, p.2) tt;
+      wanting = rw (p.1, p.2) (reading_some _ _ _ _ _ c.loop-rest.invariant c.in-Some.ensures);
+    }
