@@ -14,14 +14,14 @@ fn main() {
 
     let kit = env::var("RATTLE_KIT").expect("start the benchmark by bench/run, which sets RATTLE_KIT");
     println!("cargo:rustc-link-search=native={}", out.display());
-    println!("cargo:rustc-link-search=native=../target/staticlib");
-    println!("cargo:rustc-link-search=native={kit}/lib");
+    println!("cargo:rustc-link-search=native=../crates/lives/out");
+    println!("cargo:rustc-link-search=native={kit}/c");
     println!("cargo:rustc-link-lib=static=openmp_lives");
     println!("cargo:rustc-link-lib=static=lives");
-    println!("cargo:rustc-link-lib=static=rattle_c");
+    println!("cargo:rustc-link-lib=static=libc_c");
     println!("cargo:rustc-link-lib=gomp");
     println!("cargo:rerun-if-changed=src/openmp.c");
-    println!("cargo:rerun-if-changed=../target/staticlib/liblives.a");
+    println!("cargo:rerun-if-changed=../crates/lives/out/liblives.a");
     println!("cargo:rerun-if-env-changed=RATTLE_KIT");
 }
 
