@@ -9,3 +9,6 @@ pub returns-then-cell-reach : goal.returns-then-cell-reach
 returns-then-cell-reach g c =
     let h : extent c.args.self.now.heads.now ≤ c.args.cell = omega arith in
     c.at_rest.ensures ∙ sym (ap (record_value _ c.args.self.now.records.now) (reached_past _ _ 0 h)) ∙ sym (head_value_at _ _ _ _)
+
+pub returns : goal.returns
+returns g c = c.value_at.ensures
