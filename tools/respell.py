@@ -4,7 +4,8 @@ types in camel case. Run once at the top of the repository, after the toolchain'
 
 It renames what specs/ and proofs/ declare (top level, sections, `where`, fields and constructors), wherever it stands in
 .antt files, in the clauses of .rt files, in must-fail edits, and between backticks in README.md and docs/. The names of
-goals, of src/ and of the library are not touched. It stops, and changes nothing, where two names would fall together."""
+goals, of src/ and of the library are not touched. Where a new name already stands in a file of specs/ or proofs/, it says
+so and changes nothing; two old names with one new name are told."""
 
 import os
 import re
