@@ -5,7 +5,6 @@ use Rattle.calls.specs.declared.letter.Letter.TheVariants.{Ready}
 use Rattle.text.specs.declared.unread.Stop.{Stop}
 use Rattle.text.specs.declared.unread.Stop.TheVariants.{No, Memory}
 use Rattle.text.specs.declared.unread.Unread.{Unread}
-use Rattle.text.specs.declared.unread.Unread.TheVariants.{NoLineEnd, UnknownLetter}
 use Rattle.calls.specs.declared.written.Written.{Written}
 use Rattle.calls.specs.declared.written.Written.TheVariants as written
 use Rattle.calls.specs.Calls.{needed, letter_of, numbers_of, Fits, Made}

@@ -1,4 +1,4 @@
-use Rattle.std.proofs.Common.{sym, refl, subst, arith, eqb-true}
+use Rattle.std.proofs.Common.{sym, refl, subst, eqb-true}
 use borrow.Author.Tests.{eqb-false}
 use Rattle.text.proofs.Spaces.{ReadingOn, reading_more, reading_all, reading_bad, reading_some, took_shorter}
 use Rattle.std.proofs.lemmas.Result.{err_from_is_err_and}
