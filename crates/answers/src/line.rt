@@ -29,7 +29,7 @@ fn push_numbers(text: &mut String, numbers: &[u16]) -> Result<(), AllocError>
 fn push_value<E: Element>(text: &mut String, value: E) -> Result<(), AllocError>
     ensures { OnOk result (string_bytes text.new ≡ string_bytes text.old ++ spaced (E.Element.numbers value)) }
 {
-    for i in 0..E::number_count() {
+    for i in 0..E::WIDTH {
         push_number(text, value.number(i))?;
     }
     Ok(())

@@ -15,13 +15,13 @@ use text::unread::{Stop, Unread};
 
 // The call that the line writes. Memory can be wanting only where the line has its end and its letter.
 pub fn read_call<E: Element>(heap: Global, line: &[u8]) -> Result<Written<E>, Stop>
-    ensures read { MatchResult result (CallRead E.Element.numbers E.Element.width E.Element.made line.now) (λ s. Stopped s (NoCall E.Element.numbers E.Element.width E.Element.made line.now)) }
+    ensures read { MatchResult result (CallRead E.Element.numbers E.Element.WIDTH E.Element.made line.now) (λ s. Stopped s (NoCall E.Element.numbers E.Element.WIDTH E.Element.made line.now)) }
     ensures wanting { IfErr result (λ s. Wanting s (Lettered line.now)) }
 {
     let front = front(line)?;
     let (letter, tail) = take_letter(front)?;
     let numbers = read_numbers(heap, tail)?;
-    if !has_count(letter, &numbers, E::number_count()) {
+    if !has_count(letter, &numbers, E::WIDTH) {
         return Err(Stop::No(Unread::WrongCount));
     }
     written(heap, letter, &numbers)
@@ -67,7 +67,7 @@ fn has_count(letter: Letter, numbers: &[u64], width: usize) -> bool
 
 // The call that a letter and as many numbers as it needs write.
 fn written<E: Element>(heap: Global, letter: Letter, numbers: &[u64]) -> Result<Written<E>, Stop>
-    requires { length numbers.now ≡ needed E.Element.width letter numbers.now }
+    requires { length numbers.now ≡ needed E.Element.WIDTH letter numbers.now }
     ensures { MatchResult result (λ w. Made E.Element.numbers E.Element.made letter numbers.now w) (λ s. Stopped s (λ why. (why ≡ OutOfRange) × (Fits E.Element.made letter numbers.now → ⊥))) }
 {
     match letter {
@@ -96,7 +96,7 @@ fn written<E: Element>(heap: Global, letter: Letter, numbers: &[u64]) -> Result<
 }
 
 fn create<E: Element>(heap: Global, numbers: &[u64]) -> Result<Written<E>, Stop>
-    requires { length numbers.now ≡ needed E.Element.width Create numbers.now }
+    requires { length numbers.now ≡ needed E.Element.WIDTH Create numbers.now }
     ensures { MatchResult result (λ w. Made E.Element.numbers E.Element.made Create numbers.now w) (λ s. Stopped s (λ why. (why ≡ OutOfRange) × (Fits E.Element.made Create numbers.now → ⊥))) }
 {
     let parent = bound(numbers[0])?;
@@ -111,7 +111,7 @@ fn create<E: Element>(heap: Global, numbers: &[u64]) -> Result<Written<E>, Stop>
 }
 
 fn release<E: Element>(numbers: &[u64]) -> Result<Written<E>, Stop>
-    requires { length numbers.now ≡ needed E.Element.width Release numbers.now }
+    requires { length numbers.now ≡ needed E.Element.WIDTH Release numbers.now }
     ensures { MatchResult result (λ w. Made E.Element.numbers E.Element.made Release numbers.now w) (λ s. Stopped s (λ why. (why ≡ OutOfRange) × (Fits E.Element.made Release numbers.now → ⊥))) }
 {
     Ok(Written::Release {
@@ -122,7 +122,7 @@ fn release<E: Element>(numbers: &[u64]) -> Result<Written<E>, Stop>
 }
 
 fn read<E: Element>(numbers: &[u64]) -> Result<Written<E>, Stop>
-    requires { length numbers.now ≡ needed E.Element.width Read numbers.now }
+    requires { length numbers.now ≡ needed E.Element.WIDTH Read numbers.now }
     ensures { MatchResult result (λ w. Made E.Element.numbers E.Element.made Read numbers.now w) (λ s. Stopped s (λ why. (why ≡ OutOfRange) × (Fits E.Element.made Read numbers.now → ⊥))) }
 {
     Ok(Written::Read {
@@ -132,7 +132,7 @@ fn read<E: Element>(numbers: &[u64]) -> Result<Written<E>, Stop>
 }
 
 fn write<E: Element>(numbers: &[u64]) -> Result<Written<E>, Stop>
-    requires { length numbers.now ≡ needed E.Element.width Write numbers.now }
+    requires { length numbers.now ≡ needed E.Element.WIDTH Write numbers.now }
     ensures { MatchResult result (λ w. Made E.Element.numbers E.Element.made Write numbers.now w) (λ s. Stopped s (λ why. (why ≡ OutOfRange) × (Fits E.Element.made Write numbers.now → ⊥))) }
 {
     Ok(Written::Write {
@@ -143,7 +143,7 @@ fn write<E: Element>(numbers: &[u64]) -> Result<Written<E>, Stop>
 }
 
 fn update<E: Element>(numbers: &[u64]) -> Result<Written<E>, Stop>
-    requires { length numbers.now ≡ needed E.Element.width Update numbers.now }
+    requires { length numbers.now ≡ needed E.Element.WIDTH Update numbers.now }
     ensures { MatchResult result (λ w. Made E.Element.numbers E.Element.made Update numbers.now w) (λ s. Stopped s (λ why. (why ≡ OutOfRange) × (Fits E.Element.made Update numbers.now → ⊥))) }
 {
     Ok(Written::Update {

@@ -15,7 +15,7 @@ impl Element for Count {
 
     ghost rest = { count_of 0 };
 
-    ghost width = { 1 };
+    ghost WIDTH = { 1 };
 
     ghost numbers = { λ v. v.value ∷ [] };
 
@@ -33,10 +33,6 @@ impl Element for Count {
 
     fn at_rest() -> Count {
         Count { value: 0 }
-    }
-
-    fn number_count() -> usize {
-        Self::WIDTH
     }
 
     fn number(self, i: usize) -> u64 {

@@ -7,7 +7,7 @@ pub trait Element: Sized + Copy {
 
     ghost rest: { Self };
 
-    ghost width: { ℕ };
+    ghost WIDTH: { ℕ };
 
     ghost numbers: { Self → List ℕ };
 
@@ -17,9 +17,6 @@ pub trait Element: Sized + Copy {
 
     fn at_rest() -> Self
         ensures { result ≡ rest };
-
-    fn number_count() -> usize
-        ensures { result ≡ width };
 
     // The number at place `i` of those that write the value, 0 past the last.
     fn number(self, i: usize) -> u64
@@ -41,5 +38,5 @@ pub trait Element: Sized + Copy {
     ghost faithful: { (ns : List ℕ) (v : Self) → made ns ≡ Some v → numbers v ≡ ns };
 
     // A list of another length makes nothing.
-    ghost sized: { (ns : List ℕ) → (length ns ≢ width) → made ns ≡ None };
+    ghost sized: { (ns : List ℕ) → (length ns ≢ WIDTH) → made ns ≡ None };
 }

@@ -16,7 +16,7 @@ impl Element for Span {
 
     ghost rest = { span_rest };
 
-    ghost width = { 2 };
+    ghost WIDTH = { 2 };
 
     ghost numbers = { λ v. v.first ∷ v.last ∷ [] };
 
@@ -37,10 +37,6 @@ impl Element for Span {
             first: u64::MAX,
             last: 0,
         }
-    }
-
-    fn number_count() -> usize {
-        Self::WIDTH
     }
 
     fn number(self, i: usize) -> u64 {

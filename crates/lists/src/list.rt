@@ -52,7 +52,7 @@ fn run_body(heap: Global, header: Header, body: Reader<'_>) -> Result<String, Al
 // The same, where cells hold elements of this type.
 fn run_calls<E: Element>(heap: Global, cells: u16, body: Reader<'_>) -> Result<String, AllocError>
     requires { length body.rest.now ≤ 32768 }
-    ensures { IfOk result (λ out. Body E.Element.numbers E.Element.width E.Element.made E.Element.rest E.Element.updated cells body.entry.rest.now (string_bytes out)) }
+    ensures { IfOk result (λ out. Body E.Element.numbers E.Element.WIDTH E.Element.made E.Element.rest E.Element.updated cells body.entry.rest.now (string_bytes out)) }
 {
     let listing = read_calls::<E>(heap, body)?;
     let mut out = answer_calls(heap, cells, &listing.calls)?;

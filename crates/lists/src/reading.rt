@@ -15,7 +15,7 @@ pub(crate) fn read_calls<E: Element>(
     reader: Reader<'_>,
 ) -> Result<Listing<E>, AllocError>
     requires { length reader.rest.now ≤ 32768 }
-    ensures { IfOk result (λ l. CallsRead E.Element.numbers E.Element.width E.Element.made 2 reader.entry.rest.now l.calls.items l.end) }
+    ensures { IfOk result (λ l. CallsRead E.Element.numbers E.Element.WIDTH E.Element.made 2 reader.entry.rest.now l.calls.items l.end) }
 {
     let mut calls = Vec::new(heap);
     let mut number = 2;

@@ -14,7 +14,7 @@ returns-in_err-front g c =
     record {
       read =
           rw (p.1, p.2)
-          (subst (NoCall g.E.Element.numbers g.E.Element.width g.E.Element.made c.args.line.now) (sym e.0)
+          (subst (NoCall g.E.Element.numbers g.E.Element.WIDTH g.E.Element.made c.args.line.now) (sym e.0)
           (refused _ _ _ _ NoLineEnd e.1));
       wanting = rw (p.1, p.2) tt;
     }
@@ -26,7 +26,7 @@ returns-in_err-letter g c =
     record {
       read =
           rw (p.1, p.2)
-          (subst (NoCall g.E.Element.numbers g.E.Element.width g.E.Element.made c.args.line.now) (sym e.0)
+          (subst (NoCall g.E.Element.numbers g.E.Element.WIDTH g.E.Element.made c.args.line.now) (sym e.0)
           (unknown _ _ _ _ _ c.in_ok-front.ensures e.1));
       wanting = rw (p.1, p.2) tt;
     }
@@ -39,7 +39,7 @@ returns-in_err-numbers g c =
       wanting =
           rw (p.1, p.2)
           (wanting_where c.in_err-numbers.field-0.0 (Lettered c.args.line.now)
-          (_, _, lined g.E.Element.numbers g.E.Element.width g.E.Element.made _ _ c.in_ok-front.ensures _ _ c.in_ok-letter.ensures));
+          (_, _, lined g.E.Element.numbers g.E.Element.WIDTH g.E.Element.made _ _ c.in_ok-front.ensures _ _ c.in_ok-letter.ensures));
     }
 
 pub returns-then-not-has_count : goal.returns-then-not-has_count
@@ -47,7 +47,7 @@ returns-then-not-has_count g c =
     record {
       read =
           miscounted _ _ _ _ _ c.in_ok-front.ensures _ _ c.in_ok-letter.ensures _ c.in_ok-numbers.ensures.read
-          (eqb-false _ _ (sym (counted_same false _ _ _ _ _ c.deref.ensures.value c.number_count.ensures c.if-not-has_count.ensures)));
+          (eqb-false _ _ (sym (counted_same false _ _ _ _ _ c.deref.ensures.value refl c.if-not-has_count.ensures)));
       wanting = tt;
     }
 
@@ -55,10 +55,10 @@ pub returns : goal.returns
 returns g c =
     record {
       read =
-          judged g.E.Element.numbers g.E.Element.width g.E.Element.made _ _ c.in_ok-front.ensures _ _ c.in_ok-letter.ensures _ c.in_ok-numbers.ensures.read
-          (eqb-true _ _ (sym (counted_same true _ _ _ _ _ c.deref.ensures.value c.number_count.ensures c.if-not-has_count.ensures)))
+          judged g.E.Element.numbers g.E.Element.WIDTH g.E.Element.made _ _ c.in_ok-front.ensures _ _ c.in_ok-letter.ensures _ c.in_ok-numbers.ensures.read
+          (eqb-true _ _ (sym (counted_same true _ _ _ _ _ c.deref.ensures.value refl c.if-not-has_count.ensures)))
           _ c.deref-2.ensures.value c.written.result c.written.ensures;
       wanting =
           wanting_in c.written.result (Lettered c.args.line.now)
-          (_, _, lined g.E.Element.numbers g.E.Element.width g.E.Element.made _ _ c.in_ok-front.ensures _ _ c.in_ok-letter.ensures);
+          (_, _, lined g.E.Element.numbers g.E.Element.WIDTH g.E.Element.made _ _ c.in_ok-front.ensures _ _ c.in_ok-letter.ensures);
     }

@@ -10,7 +10,7 @@ returns g c =
       bad = c.in_ok-listing.listing.end;
       answers = string_bytes c.in_ok-out.out;
       read = c.in_ok-listing.ensures;
-      form = form_read g.E.Element.numbers g.E.Element.width g.E.Element.made 2 _ _ _ c.in_ok-listing.ensures;
+      form = form_read g.E.Element.numbers g.E.Element.WIDTH g.E.Element.made 2 _ _ _ c.in_ok-listing.ensures;
       run = subst (λ ws. Answers g.E.Element.numbers g.E.Element.rest g.E.Element.updated c.args.cells ws (string_bytes c.in_ok-out.out)) c.deref.ensures.value c.in_ok-out.ensures;
       whole = c.in_ok-push_end.ensures;
     }

@@ -8,7 +8,7 @@ pub returns-in-Err : goal.returns-in-Err
 returns-in-Err g c =
     so_far_all _ _ _ _ _ _ _ _ c.loop-left.invariant.0
     (stopped_at _ _ _ _ _ _ _ (some_tested _ c.loop-left-test.ensures) c.take_line.ensures.line
-    (subst (λ s. Stopped s (NoCall g.E.Element.numbers g.E.Element.width g.E.Element.made c.take_line.result.0.bytes.now)) c.in_ok-why-in-Err.ensures c.in-Err.ensures.read))
+    (subst (λ s. Stopped s (NoCall g.E.Element.numbers g.E.Element.WIDTH g.E.Element.made c.take_line.result.0.bytes.now)) c.in_ok-why-in-Err.ensures c.in-Err.ensures.read))
 
 pub loop-left-smaller : goal.loop-left-smaller
 loop-left-smaller g c = rw c.take_line.ensures.rest (after_shorter _ (some_tested _ c.loop-left-test.ensures))

@@ -4,7 +4,7 @@ use Rattle.lists.proofs.reading.read_calls.Given as goal
 
 abbrev pub invariant-loop-left : goal.invariant-loop-left
 invariant-loop-left g l =
-    SoFar g.E.Element.numbers g.E.Element.width g.E.Element.made l.initial.left.rest.now (vec_items l.calls) l.number l.left.rest.now
+    SoFar g.E.Element.numbers g.E.Element.WIDTH g.E.Element.made l.initial.left.rest.now (vec_items l.calls) l.number l.left.rest.now
     × (l.number + length l.left.rest.now ≤ 32770)
 
 abbrev pub decreases-loop-left : goal.decreases-loop-left
