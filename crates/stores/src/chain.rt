@@ -1,4 +1,4 @@
-ghost use Rattle.std.specs.Prelude.{◌≡◌, ℕ, ◌<◌, length, slice_index_or};
+ghost use Rattle.std.specs.Prelude.{◌≡◌, ℕ, ◌<◌, ◌≤◌, length, slice_index_or};
 ghost use Rattle.stores.specs.Store.{reached, extent};
 ghost use Rattle.stores.specs.Chain.{Sound, record_value, head_values, head_values_few, chain_verdict, chain_beyond, Linked, cleared};
 
@@ -19,14 +19,12 @@ pub struct ChainStore<'a, E> {
 
 // The value of a record by its number, and the rest value for 0.
 fn value_of<E: Element>(records: &[Record<E>], number: u16) -> E
+    requires { number ≤ length records.now }
     ensures { result ≡ record_value E.Element.rest records.now number }
 {
-    if number == 0 {
-        return E::at_rest();
-    }
-    match records.get(number as usize - 1) {
-        Some(record) => record.value,
-        None => E::at_rest(),
+    match number {
+        0 => E::at_rest(),
+        _ => records[number as usize - 1].value,
     }
 }
 
@@ -100,10 +98,8 @@ impl<'a, E: Element> ChainStore<'a, E> {
 fn clear(heads: &mut [u16])
     ensures { heads.new ≡ cleared heads.old }
 {
-    let n = reach(heads.len()) as usize;
-    for i in 0..n {
-        heads[i] = 0;
-    }
+    let taken = reach(heads.len()) as usize;
+    heads[..taken].fill(0);
 }
 
 impl<'a, E> ChainStore<'a, E> {

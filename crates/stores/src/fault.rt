@@ -4,20 +4,16 @@ ghost use Rattle.stores.specs.Fault.{cause_number, own_fault, deeper, raised_res
 // Why a store refuses a write.
 #[derive(Clone, Copy, PartialEq, Eq, Debug)]
 pub enum Cause {
-    RecordsUsedUp,
-    AllowanceSpent,
-    NoSuchCell,
+    RecordsUsedUp = 1,
+    AllowanceSpent = 2,
+    NoSuchCell = 3,
 }
 
 impl Cause {
     pub fn number(self) -> u8
         ensures { result ≡ cause_number self }
     {
-        match self {
-            Cause::RecordsUsedUp => 1,
-            Cause::AllowanceSpent => 2,
-            Cause::NoSuchCell => 3,
-        }
+        self as u8
     }
 }
 
@@ -46,9 +42,8 @@ impl Fault {
         ensures { result ≡ deeper self }
     {
         Fault {
-            cause: self.cause,
             depth: self.depth.saturating_add(1),
-            cell: self.cell,
+            ..self
         }
     }
 }
@@ -57,8 +52,5 @@ impl Fault {
 pub fn raised(below: Result<(), Fault>) -> Result<(), Fault>
     ensures { result ≡ raised_result below }
 {
-    match below {
-        Ok(()) => Ok(()),
-        Err(fault) => Err(fault.deeper()),
-    }
+    below.map_err(Fault::deeper)
 }

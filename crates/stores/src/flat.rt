@@ -51,10 +51,7 @@ impl<'a, E: Element> FlatStore<'a, E> {
         requires { cell < extent self.now.places.now }
         ensures { result ≡ slice_index_or (reached self.now.places.now) cell E.Element.rest }
     {
-        match self.places.get(cell as usize) {
-            Some(value) => *value,
-            None => E::at_rest(),
-        }
+        self.places[cell as usize]
     }
 }
 

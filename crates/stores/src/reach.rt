@@ -5,7 +5,7 @@ ghost use Rattle.stores.specs.Store.{most, reached, extent};
 pub(crate) fn reach(places: usize) -> u16
     ensures { result ≡ min most places }
 {
-    places.min(65535) as u16
+    u16::try_from(places).unwrap_or(u16::MAX)
 }
 
 // The same of the places themselves.

@@ -1,5 +1,4 @@
-ghost use Rattle.std.specs.Prelude.{slice_index_or};
-ghost use Rattle.stores.specs.Store.{Wrote};
+ghost use Rattle.stores.specs.Members.{WroteOn, updated_at};
 
 use crate::fault::Fault;
 use crate::store::Store;
@@ -7,7 +6,7 @@ use elements::element::Element;
 
 // Reads a cell of any store and writes it back updated by the amount.
 pub fn update<S: Store>(store: &mut S, cell: u16, amount: S::E) -> Result<(), Fault>
-    ensures { Wrote S.Store.cells S.Store.verdict S.Store.took store.old cell (S.E.Element.updated (slice_index_or (S.Store.cells store.old) cell S.E.Element.rest) amount) result store.new }
+    ensures { WroteOn S.Store store.old cell (updated_at S.Store S.E.Element store.old cell amount) result store.new }
 {
     let old = store.read(cell);
     store.write(cell, old.update(amount))
