@@ -1,3 +1,4 @@
 pub mod Numbers
 pub mod Run
+pub mod Engines
 pub mod Calls

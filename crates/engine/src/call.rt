@@ -1,3 +1,6 @@
+ghost use Rattle.std.specs.Prelude.{◌≡◌, Ok};
+ghost use Rattle.engine.specs.declared.call.Reply.TheVariants.{Done};
+
 use crate::refusal::Refusal;
 use kinds::access::Access;
 
@@ -62,4 +65,16 @@ pub enum Reply<E> {
 pub struct Turn<'a, E> {
     pub call: Call<'a, E>,
     pub answer: Result<Reply<E>, Refusal>,
+}
+
+// A turn that is to be taken; until then its place for the answer has any answer.
+impl<'a, E> From<Call<'a, E>> for Turn<'a, E> {
+    ghost from_gives = { λ call turn. (turn.call ≡ call) × (turn.answer ≡ Ok Done) };
+
+    fn from(call: Call<'a, E>) -> Turn<'a, E> {
+        Turn {
+            call,
+            answer: Ok(Reply::Done),
+        }
+    }
 }

@@ -45,21 +45,13 @@ impl<S: Store> Store for WriteBehind<S::E, S> {
         if cell >= self.below.count() {
             return Err(Fault::own(Cause::NoSuchCell, cell));
         }
-        match self.held {
-            None => {
-                self.held = Some(Held { cell, value });
-                Ok(())
-            }
-            Some(h) => {
-                if h.cell == cell {
-                    self.held = Some(Held { cell, value });
-                    return Ok(());
-                }
-                raised(self.below.write(h.cell, h.value))?;
-                self.held = Some(Held { cell, value });
-                Ok(())
-            }
+        if let Some(h) = self.held
+            && h.cell != cell
+        {
+            raised(self.below.write(h.cell, h.value))?;
         }
+        self.held = Some(Held { cell, value });
+        Ok(())
     }
 }
 

@@ -4,4 +4,3 @@
 pub mod allowance;
 pub mod behind;
 pub mod held;
-pub mod lent;

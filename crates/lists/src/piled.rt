@@ -5,7 +5,6 @@ use elements::element::Element;
 use engine::call::Turn;
 use layers::allowance::Allowance;
 use layers::behind::WriteBehind;
-use layers::lent::Lent;
 use order::room::Room;
 use runs::run::run;
 use stores::chain::ChainStore;
@@ -26,6 +25,6 @@ pub(crate) fn run_piled<E: Element>(
     ensures calls { map (λ e. e.call) turns.new ≡ map (λ e. e.call) turns.old }
 {
     let mut chain = ChainStore::new(heads, records);
-    let pile = Allowance::new(WriteBehind::new(Lent { store: &mut chain }), ALLOWANCE);
+    let pile = Allowance::new(WriteBehind::new(&mut chain), ALLOWANCE);
     let _engine = run(room, pile, turns);
 }

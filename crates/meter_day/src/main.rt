@@ -5,7 +5,6 @@ use elements::element::Element;
 use elements::span::Span;
 use layers::allowance::Allowance;
 use layers::behind::WriteBehind;
-use layers::lent::Lent;
 use std::io;
 use stores::chain::ChainStore;
 use stores::fault::{Cause, Fault};
@@ -117,7 +116,7 @@ fn main(rt: HostRuntime) -> io::Result<()> {
         next: 0,
     }; 3];
     let mut chain = ChainStore::new(&mut heads, &mut records);
-    let mut meters = Allowance::new(WriteBehind::new(Lent { store: &mut chain }), 8);
+    let mut meters = Allowance::new(WriteBehind::new(&mut chain), 8);
 
     let mut span_heads = [7u16; 1];
     let mut span_records = [Record {
@@ -126,9 +125,7 @@ fn main(rt: HostRuntime) -> io::Result<()> {
     }; 1];
     let mut span_chain = ChainStore::new(&mut span_heads, &mut span_records);
     let mut times = Allowance::new(
-        WriteBehind::new(Lent {
-            store: &mut span_chain,
-        }),
+        WriteBehind::new(&mut span_chain),
         100,
     );
 

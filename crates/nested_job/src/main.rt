@@ -7,7 +7,6 @@ use engine::refusal::Refusal;
 use kinds::access::Access;
 use layers::allowance::Allowance;
 use layers::behind::WriteBehind;
-use layers::lent::Lent;
 use order::room::Room;
 use runs::run::run;
 use stores::chain::ChainStore;
@@ -169,7 +168,7 @@ fn job(rt: &HostRuntime, code: u8) -> anyhow::Result<()> {
         next: 0,
     }; 16];
     let mut chain = ChainStore::new(&mut heads, &mut records);
-    let pile = Allowance::new(WriteBehind::new(Lent { store: &mut chain }), 100);
+    let pile = Allowance::new(WriteBehind::new(&mut chain), 100);
     let room = Room::reserve(rt.alloc())?;
     let _engine = run(room, pile, &mut turns);
     for turn in &turns {

@@ -2,7 +2,7 @@ ghost use Rattle.std.specs.Prelude.{◌≡◌, map, length};
 ghost use Rattle.order.specs.Tasks.{new};
 ghost use Rattle.order.specs.View.{view};
 ghost use Rattle.engine.specs.declared.call.Call.TheVariants.{Ready};
-ghost use Rattle.engine.specs.Run.{One, Promised, RanNew};
+ghost use Rattle.engine.specs.Engines.{Keeps, Led, LedNew};
 
 use engine::call::{Call, Reply, Turn};
 use engine::engine::Engine;
@@ -10,22 +10,21 @@ use engine::refusal::Refusal;
 use order::room::Room;
 use stores::store::Store;
 
+// The tasks that there can be.
+const MOST_TASKS: usize = 64;
+
 // The tasks that are ready, in a list of so many places; 64 are enough for any number of them.
 fn list_ready<S: Store>(engine: &Engine<S>, places: usize) -> Result<Reply<S::E>, Refusal>
-    ensures { One S.Store.cells S.Store.verdict S.Store.took S.E.Element.rest S.E.Element.updated (view engine.now.table) engine.now.store (Ready places) result (view engine.now.table) engine.now.store }
+    ensures { Led S.Store S.E.Element engine.now (Ready places) result engine.now }
 {
-    let mut list = [0; 64];
-    if places < 64 {
-        let count = engine.ready(&mut list[0..places])?;
-        return Ok(Reply::Ready { count, list });
-    }
-    let count = engine.ready(&mut list)?;
+    let mut list = [0; MOST_TASKS];
+    let count = engine.ready(&mut list[..places.min(MOST_TASKS)])?;
     Ok(Reply::Ready { count, list })
 }
 
 // Performs a call by the public call of its name.
 fn perform<S: Store>(engine: &mut Engine<S>, call: &Call<S::E>) -> Result<Reply<S::E>, Refusal>
-    ensures { One S.Store.cells S.Store.verdict S.Store.took S.E.Element.rest S.E.Element.updated (view engine.old.table) engine.old.store call.now result (view engine.new.table) engine.new.store }
+    ensures { Led S.Store S.E.Element engine.old call.now result engine.new }
 {
     match call {
         Call::Create {
@@ -69,7 +68,7 @@ fn perform<S: Store>(engine: &mut Engine<S>, call: &Call<S::E>) -> Result<Reply<
 
 // Performs the call of one turn, and notes its answer.
 fn take_turn<S: Store>(engine: &mut Engine<S>, turn: &mut Turn<S::E>)
-    ensures one { One S.Store.cells S.Store.verdict S.Store.took S.E.Element.rest S.E.Element.updated (view engine.old.table) engine.old.store turn.old.call turn.new.answer (view engine.new.table) engine.new.store }
+    ensures one { Led S.Store S.E.Element engine.old turn.old.call turn.new.answer engine.new }
     ensures call { turn.new.call ≡ turn.old.call }
 {
     turn.answer = perform(engine, &turn.call);
@@ -78,9 +77,9 @@ fn take_turn<S: Store>(engine: &mut Engine<S>, turn: &mut Turn<S::E>)
 // Performs the call of each turn in order on a new engine.
 fn run_turns<S: Store>(engine: &mut Engine<S>, turns: &mut [Turn<S::E>])
     requires { view engine.old.table ≡ new (length (S.Store.cells engine.old.store)) }
-    ensures ran { RanNew S.Store.cells S.Store.verdict S.Store.took S.E.Element.rest S.E.Element.updated engine.old.store turns.new (view engine.new.table) engine.new.store }
+    ensures ran { LedNew S.Store S.E.Element engine.old.store turns.new engine.new }
     ensures calls { map (λ e. e.call) turns.new ≡ map (λ e. e.call) turns.old }
-    ensures promised { Promised S.Store.cells S.Store.verdict S.Store.took S.E.Element.rest S.E.Element.updated engine.old.store turns.new (view engine.new.table) engine.new.store }
+    ensures promised { Keeps S.Store S.E.Element engine.old.store turns.new engine.new }
 {
     for turn in turns.iter_mut() {
         take_turn(engine, turn);
@@ -89,8 +88,8 @@ fn run_turns<S: Store>(engine: &mut Engine<S>, turns: &mut [Turn<S::E>])
 
 // Performs the call of each turn on a new engine, and notes its answer there.
 pub fn run<S: Store>(room: Room, store: S, turns: &mut [Turn<S::E>]) -> Engine<S>
-    ensures ran { RanNew S.Store.cells S.Store.verdict S.Store.took S.E.Element.rest S.E.Element.updated store turns.new (view result.table) result.store }
-    ensures promised { Promised S.Store.cells S.Store.verdict S.Store.took S.E.Element.rest S.E.Element.updated store turns.new (view result.table) result.store }
+    ensures ran { LedNew S.Store S.E.Element store turns.new result }
+    ensures promised { Keeps S.Store S.E.Element store turns.new result }
     ensures calls { map (λ e. e.call) turns.new ≡ map (λ e. e.call) turns.old }
 {
     let mut engine = Engine::new(room, store);

@@ -1,6 +1,6 @@
 ghost use Rattle.std.specs.Prelude.{◌≡◌, length};
 ghost use Rattle.order.specs.View.{view};
-ghost use Rattle.engine.specs.Run.{Settled};
+ghost use Rattle.engine.specs.Engines.{KeepsAll};
 
 use engine::engine::Engine;
 use stores::store::Store;
@@ -9,7 +9,7 @@ use stores::store::Store;
 // reads, and until task 0 is deeply complete some task can go on.
 pub fn settled<S: Store>(engine: &Engine<S>) -> u16
     ensures cells { result ≡ length (S.Store.cells engine.now.store) }
-    ensures promised { Settled S.Store.cells S.Store.verdict S.Store.took S.E.Element.rest S.E.Element.updated (view engine.now.table) engine.now.store }
+    ensures promised { KeepsAll S.Store S.E.Element engine.now }
 {
     engine.cells()
 }

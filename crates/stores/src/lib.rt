@@ -4,6 +4,7 @@
 pub mod chain;
 pub mod fault;
 pub mod flat;
+mod lent;
 mod reach;
 pub mod record;
 pub mod store;

@@ -3,6 +3,7 @@ use Rattle.std.specs.Prelude.{◌≡◌, ℕ, List, [], ◌∷◌, Ok, Err, Resu
 use Rattle.std.specs.Result.{result_err}
 use Rattle.stores.specs.declared.fault.Fault.{Fault}
 use Rattle.stores.specs.Fault.{Verdict}
+use Rattle.stores.specs.declared.store.Store as store
 use Rattle.stores.specs.Store.{Wrote}
 use Rattle.writes.specs.declared.turn.Turn.{Turn}
 
@@ -29,3 +30,7 @@ module _ {S V : Type 0} (cells : S → List V) (verdict : S → ℕ → Verdict)
   abbrev pub Went : S → List (Turn V) → S → Type 0
   Went s [] t = t ≡ s
   Went s (e ∷ es) t = (m : S) × Wrote cells verdict took s e.cell e.value e.answer m × Went m es t
+
+-- the same on a store by its trait
+abbrev pub WentOn : {S V : Type 0} → store.Ghosts S V → S → List (Turn V) → S → Type 0
+WentOn on s turns t = Went on.cells on.verdict on.took s turns t

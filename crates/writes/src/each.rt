@@ -1,13 +1,13 @@
 ghost use Rattle.std.specs.Prelude.{◌≡◌, map};
-ghost use Rattle.stores.specs.Store.{Wrote};
-ghost use Rattle.writes.specs.Writes.{Went, asked};
+ghost use Rattle.stores.specs.Members.{WroteOn};
+ghost use Rattle.writes.specs.Writes.{WentOn, asked};
 
 use crate::turn::Turn;
 use stores::store::Store;
 
 // Asks the store for the write of one turn, and notes its answer.
 fn take_turn<S: Store>(store: &mut S, turn: &mut Turn<S::E>)
-    ensures wrote { Wrote S.Store.cells S.Store.verdict S.Store.took store.old turn.old.cell turn.old.value turn.new.answer store.new }
+    ensures wrote { WroteOn S.Store store.old turn.old.cell turn.old.value turn.new.answer store.new }
     ensures cell { turn.new.cell ≡ turn.old.cell }
     ensures value { turn.new.value ≡ turn.old.value }
 {
@@ -16,7 +16,7 @@ fn take_turn<S: Store>(store: &mut S, turn: &mut Turn<S::E>)
 
 // Asks for each write in order.
 pub fn write_each<S: Store>(store: &mut S, turns: &mut [Turn<S::E>])
-    ensures went { Went S.Store.cells S.Store.verdict S.Store.took store.old turns.new store.new }
+    ensures went { WentOn S.Store store.old turns.new store.new }
     ensures asked { map asked turns.new ≡ map asked turns.old }
 {
     for turn in turns.iter_mut() {
