@@ -1,7 +1,26 @@
 // One access as it is asked for: the cells from lo up to, not including, hi, and the raw code of its kind.
-#[derive(Clone, Copy)]
+#[derive(Clone, Copy, Debug, PartialEq, Eq)]
 pub struct Access {
     pub lo: u16,
     pub hi: u16,
     pub code: u8,
+}
+
+// The codes that stand for a holding.
+impl Access {
+    pub const IN: u8 = 1;
+
+    pub const OUT: u8 = 2;
+
+    pub const INOUT: u8 = 3;
+
+    pub const CONCURRENT: u8 = 4;
+
+    pub const COMMUTATIVE: u8 = 5;
+
+    pub const WEAK_IN: u8 = 6;
+
+    pub const WEAK_OUT: u8 = 7;
+
+    pub const WEAK_INOUT: u8 = 8;
 }

@@ -1,46 +1,62 @@
-ghost use Rattle.std.specs.Prelude.{◌≡◌};
+ghost use Rattle.std.specs.Prelude.{◌≡◌, Some, None, MatchResult};
 ghost use Rattle.kinds.specs.Kinds.{combine, combine_held, holding_of, Lawful};
 
+use crate::access::Access;
 use crate::kind::Kind;
+use std::error::Error;
+use std::fmt;
 
 // What a task holds of one cell where it holds it at all: a kind, strongly or weakly.
-#[derive(Clone, Copy)]
+#[derive(Clone, Copy, Debug, Default, PartialEq, Eq)]
 pub struct Holding {
     pub kind: Kind,
     pub strong: bool,
 }
 
-impl Holding {
-    // What the code of an access stands for: 1 to 5 are the strong kinds, 6 to 8 the weak forms of the first three.
-    pub fn from_code(code: u8) -> Option<Holding>
-        ensures { result ≡ holding_of code }
-    {
-        let strong = match code {
-            1..=5 => true,
-            weak if weak > 5 && weak < 9 => false,
-            _ => return None,
-        };
-        let kind = match code {
-            1 | 6 => Kind::In,
-            2 | 7 => Kind::Out,
-            3 | 8 => Kind::Inout,
-            4 => Kind::Concurrent,
-            _ => Kind::Commutative,
-        };
-        Some(Holding { kind, strong })
-    }
+// A code that stands for no holding.
+#[derive(Clone, Copy, Debug, PartialEq, Eq)]
+pub struct UnknownCode(pub u8);
 
+impl fmt::Display for UnknownCode {
+    fn fmt<W: fmt::Write>(&self, f: &mut fmt::Formatter<W>) -> fmt::Result {
+        write!(f, "no kind of access has code {}", self.0)
+    }
+}
+
+impl Error for UnknownCode {}
+
+// What the code of an access stands for.
+impl TryFrom<u8> for Holding {
+    type Error = UnknownCode;
+
+    ghost try_from_gives = { λ code r. MatchResult r (λ h. holding_of code ≡ Some h) (λ e. (holding_of code ≡ None) × (e.0 ≡ code)) };
+
+    fn try_from(code: u8) -> Result<Holding, UnknownCode> {
+        let (kind, strong) = match code {
+            Access::IN => (Kind::In, true),
+            Access::OUT => (Kind::Out, true),
+            Access::INOUT => (Kind::Inout, true),
+            Access::CONCURRENT => (Kind::Concurrent, true),
+            Access::COMMUTATIVE => (Kind::Commutative, true),
+            Access::WEAK_IN => (Kind::In, false),
+            Access::WEAK_OUT => (Kind::Out, false),
+            Access::WEAK_INOUT => (Kind::Inout, false),
+            _ => return Err(UnknownCode(code)),
+        };
+        Ok(Holding { kind, strong })
+    }
+}
+
+impl Holding {
     // What two accesses of one task to the same cell come to.
     pub fn combine(self, other: Holding) -> Holding
         ensures value { result ≡ combine self other }
         ensures laws { Lawful combine × Lawful combine_held }
     {
-        let kind = match (self.kind, other.kind) {
-            (Kind::In, Kind::In) => Kind::In,
-            (Kind::Out, Kind::Out) => Kind::Out,
-            (Kind::Concurrent, Kind::Concurrent) => Kind::Concurrent,
-            (Kind::Commutative, Kind::Commutative) => Kind::Commutative,
-            _ => Kind::Inout,
+        let kind = if self.kind == other.kind {
+            self.kind
+        } else {
+            Kind::Inout
         };
         Holding {
             kind,
