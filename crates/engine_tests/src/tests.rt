@@ -1,7 +1,7 @@
 use elements::count::Count;
 use elements::element::Element;
 use elements::span::Span;
-use engine::call::{Call, Reply, Turn};
+use engine::call::{Call, Turn};
 use engine::engine::Engine;
 use engine::refusal::Refusal;
 use kinds::access::Access;
@@ -14,12 +14,6 @@ use stores::chain::ChainStore;
 use stores::flat::FlatStore;
 use stores::record::Record;
 use stores::store::Store;
-
-const IN: u8 = 1;
-
-const OUT: u8 = 2;
-
-const INOUT: u8 = 3;
 
 fn access(lo: u16, hi: u16, code: u8) -> Access {
     Access { lo, hi, code }
@@ -40,21 +34,6 @@ fn no<T: Drop>(r: Result<T, Refusal>) -> (u8, u8, u8, u16) {
 
 const OK: (u8, u8, u8, u16) = (0, 0, 0, 0);
 
-fn value<E: Element>(r: Result<E, Refusal>) -> Option<E> {
-    match r {
-        Ok(v) => Some(v),
-        Err(_) => None,
-    }
-}
-
-// A turn that has not been taken: its place for the answer has any answer.
-fn ask<'a>(call: Call<'a, Count>) -> Turn<'a, Count> {
-    Turn {
-        call,
-        answer: Ok(Reply::Done),
-    }
-}
-
 #[test]
 fn faults_arrive_whole(rt: HostRuntime) -> Result<(), Fail> {
     let mut heads = [0u16; 3];
@@ -72,7 +51,7 @@ fn faults_arrive_whole(rt: HostRuntime) -> Result<(), Fail> {
         (17, 1, 2, 1),
         "records used up, for the held cell"
     );
-    assert_eq!(rt; value(e.look(2)), Some(count(0)));
+    assert_eq!(rt; e.look(2).ok(), Some(count(0)));
     assert_eq!(rt; no(e.update(0, 1, count(2))), OK);
     assert_eq!(rt;
         no(e.update(0, 1, count(2))),
@@ -84,8 +63,8 @@ fn faults_arrive_whole(rt: HostRuntime) -> Result<(), Fail> {
         (14, 0, 0, 0),
         "the engine asks for the cell before the store does"
     );
-    assert_eq!(rt; value(e.read(0, 0)), Some(count(4)));
-    assert_eq!(rt; value(e.look(1)), Some(count(7)));
+    assert_eq!(rt; e.read(0, 0).ok(), Some(count(4)));
+    assert_eq!(rt; e.look(1).ok(), Some(count(7)));
     Ok(())
 }
 
@@ -94,13 +73,13 @@ fn refusals_alter_nothing(rt: HostRuntime) -> Result<(), Fail> {
     let mut cells = [count(3), count(4)];
     let pile = Allowance::new(WriteBehind::new(FlatStore::new(&mut cells)), 2);
     let mut e = Engine::new(Room::reserve(rt.alloc())?, pile);
-    assert_eq!(rt; no(e.create(0, false, &[access(0, 1, IN)])), OK);
+    assert_eq!(rt; no(e.create(0, false, &[access(0, 1, Access::IN)])), OK);
     assert_eq!(rt; no(e.start(1)), OK);
     assert_eq!(rt; no(e.write(1, 0, count(9))), (15, 0, 0, 0));
     assert_eq!(rt; no(e.update(1, 1, count(9))), (15, 0, 0, 0));
     assert_eq!(rt; no(e.write(0, 0, count(9))), (16, 0, 0, 0));
     assert_eq!(rt; no(e.write(2, 0, count(9))), (1, 0, 0, 0));
-    assert_eq!(rt; value(e.read(1, 0)), Some(count(3)));
+    assert_eq!(rt; e.read(1, 0).ok(), Some(count(3)));
     assert_eq!(rt; no(e.finish(1)), OK);
     assert_eq!(rt; no(e.read(1, 0)), (2, 0, 0, 0));
     assert_eq!(rt; no(e.write(0, 0, count(9))), OK);
@@ -110,8 +89,8 @@ fn refusals_alter_nothing(rt: HostRuntime) -> Result<(), Fail> {
         "no refusal spent the allowance"
     );
     assert_eq!(rt; no(e.write(0, 1, count(7))), (17, 2, 0, 1));
-    assert_eq!(rt; value(e.look(0)), Some(count(9)));
-    assert_eq!(rt; value(e.look(1)), Some(count(8)));
+    assert_eq!(rt; e.look(0).ok(), Some(count(9)));
+    assert_eq!(rt; e.look(1).ok(), Some(count(8)));
     Ok(())
 }
 
@@ -121,8 +100,8 @@ fn spans_on_a_flat_store(rt: HostRuntime) -> Result<(), Fail> {
     let mut e = Engine::new(Room::reserve(rt.alloc())?, FlatStore::new(&mut cells));
     assert_eq!(rt; no(e.update(0, 0, Span { first: 3, last: 5 })), OK);
     assert_eq!(rt; no(e.update(0, 0, Span { first: 1, last: 4 })), OK);
-    assert_eq!(rt; value(e.read(0, 0)), Some(Span { first: 1, last: 5 }));
-    assert_eq!(rt; value(e.look(1)), Some(Span::at_rest()));
+    assert_eq!(rt; e.read(0, 0).ok(), Some(Span { first: 1, last: 5 }));
+    assert_eq!(rt; e.look(1).ok(), Some(Span::at_rest()));
     assert_eq!(rt; no(e.look(2)), (14, 0, 0, 0));
     Ok(())
 }
@@ -131,7 +110,7 @@ fn spans_on_a_flat_store(rt: HostRuntime) -> Result<(), Fail> {
 fn limits(rt: HostRuntime) -> Result<(), Fail> {
     let mut cells = [count(0)];
     let mut e = Engine::new(Room::reserve(rt.alloc())?, FlatStore::new(&mut cells));
-    let a = access(0, 1, IN);
+    let a = access(0, 1, Access::IN);
     assert_eq!(rt; no(e.create(0, false, &[a, a, a, a, a, a, a, a])), OK);
     assert_eq!(rt;
         no(e.create(0, false, &[a, a, a, a, a, a, a, a, a])),
@@ -154,27 +133,27 @@ fn limits(rt: HostRuntime) -> Result<(), Fail> {
 #[test]
 fn a_run_notes_every_answer(rt: HostRuntime) -> Result<(), Fail> {
     let mut cells = [count(0); 4];
-    let writer = [access(0, 2, INOUT)];
-    let reader = [access(1, 3, OUT)];
+    let writer = [access(0, 2, Access::INOUT)];
+    let reader = [access(1, 3, Access::OUT)];
     let mut turns = [
-        ask(Call::Create {
+        Turn::from(Call::Create {
             parent: 0,
             waits: false,
             accesses: &writer,
         }),
-        ask(Call::Create {
+        Turn::from(Call::Create {
             parent: 0,
             waits: false,
             accesses: &reader,
         }),
-        ask(Call::Start { task: 2 }),
-        ask(Call::Start { task: 1 }),
-        ask(Call::Write {
+        Turn::from(Call::Start { task: 2 }),
+        Turn::from(Call::Start { task: 1 }),
+        Turn::from(Call::Write {
             task: 1,
             cell: 1,
             value: count(7),
         }),
-        ask(Call::Ready { places: 63 }),
+        Turn::from(Call::Ready { places: 63 }),
     ];
     let e = run(
         Room::reserve(rt.alloc())?,
@@ -187,6 +166,6 @@ fn a_run_notes_every_answer(rt: HostRuntime) -> Result<(), Fail> {
     assert_eq!(rt; no(turns[3].answer), OK);
     assert_eq!(rt; no(turns[4].answer), OK);
     assert_eq!(rt; no(turns[5].answer), (18, 0, 0, 0));
-    assert_eq!(rt; value(e.look(1)), Some(count(7)));
+    assert_eq!(rt; e.look(1).ok(), Some(count(7)));
     Ok(())
 }
