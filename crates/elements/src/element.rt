@@ -18,10 +18,11 @@ pub trait Element: Sized + Copy {
     fn at_rest() -> Self
         ensures { result ≡ rest };
 
-    // The number at place `i` of those that write the value, 0 past the last.
+    // The number at place `i` of those that write the value, 0 past the last; an array of `WIDTH` numbers cannot be named here.
     fn number(self, i: usize) -> u64
         ensures { result ≡ slice_index (numbers self) i };
 
+    // No `TryFrom<&[u64]>`: a bound cannot ask it for slices of every lifetime.
     fn from_numbers(ns: &[u64]) -> Option<Self>
         ensures { result ≡ made ns.now };
 

@@ -52,6 +52,7 @@ pub enum Call<'a, E> {
 }
 
 // What an accepted call answers; of a list of ready tasks the first `count` places count.
+// An array and a count, since a reply needs no memory of its own and a caller may make one with any count.
 #[derive(Clone, Copy)]
 pub enum Reply<E> {
     Done,
@@ -60,7 +61,7 @@ pub enum Reply<E> {
     Ready { count: usize, list: [u16; 64] },
 }
 
-// A call, and the place for its answer.
+// A call, and the place for its answer. The place always has an answer, so that those of a run are read without asking whether they are there.
 #[derive(Clone, Copy)]
 pub struct Turn<'a, E> {
     pub call: Call<'a, E>,

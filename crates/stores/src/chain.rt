@@ -9,6 +9,7 @@ use crate::store::Store;
 use elements::element::Element;
 
 // Each write takes a new record; a cell is the chain of its records, the newest first.
+// Records go by numbers, 0 for none: heads and records are the caller's memory, in a form that the caller reads too, and no heap is used.
 #[derive(Drop)]
 pub struct ChainStore<'a, E> {
     heads: &'a mut [u16],

@@ -9,6 +9,8 @@ use stores::chain::ChainStore;
 use stores::flat::FlatStore;
 use stores::record::Record;
 
+// Two functions, not one over both stores: what the caller lends and then has is one list here and two lists there.
+
 // Writes on the caller's own cells, and what the caller then has there.
 pub fn write_flat<E: Element>(places: &mut [E], turns: &mut [Turn<E>])
     ensures answered { Answered flat_verdict slice_set places.old turns.new }
