@@ -7,14 +7,9 @@ use Rattle.order.specs.Questions.{children_complete}
 use Rattle.order.specs.Records.{Sound, tally, parent_at, open_at, complete, complete_at, ended, ended_at, open_child}
 use Rattle.order.specs.Tasks.{World, count, every, state_of, is_finished, parent_of, child, deeply_complete, let_go}
 use Rattle.order.specs.View.{world_of, task_of, root}
+use Rattle.order.proofs.Bounded.{every_like}
 use Rattle.order.proofs.Deeply.{deep_by_children}
 use Rattle.order.proofs.Viewed.{record_at, at_record, count_of, parent_is, well_of}
-
--- tests that agree below n hold at all of them alike
-pub every_like : (n : ℕ) (f g : ℕ → Bool) → ((i : ℕ) → i < n → f i ≡ g i) → every n f ≡ every n g
-every_like zero f g e = refl
-every_like (suc n) f g e =
-    ap (λ (b : Bool). b && every n f) (e n (omega arith)) ∙ ap (λ (b : Bool). g n && b) (every_like n f g (λ i h. e i (omega arith)))
 
 -- a tally is 0 where the test holds nowhere
 pub none_counted : (n : ℕ) (f : ℕ → Bool) → eqb (tally n f) 0 ≡ every n (λ i. not (f i))

@@ -1,9 +1,10 @@
 -- A new task: the questions of a create in their order, and the records with one more.
 -- Assumes nothing.
-use Rattle.std.proofs.Common.{◌≡◌, ℕ, ◌+◌, ◌<◌, ◌≤◌, Bool, true, false, not, ◌&&◌, ltb, leb, List, [], ◌∷◌, length, get_or, drop, is_some, Some, None, Ok, Err, Option, Result, sym, refl, ap, ◌∙◌, arith, MatchResult}
+use Rattle.std.proofs.Common.{◌≡◌, ℕ, ◌<◌, ◌≤◌, Bool, true, false, not, ◌&&◌, ltb, leb, List, [], ◌∷◌, length, get_or, Ok, Err, Option, Result, sym, refl, ap, ◌∙◌, arith, MatchResult}
 use mathlib.Core.Path.{fun_ext}
-use Rattle.std.proofs.lemmas.List.{at_drop_more, at_drop_all}
-use Rattle.std.proofs.lemmas.Bool.{and_left, lt-ltb, le-ltb}
+use Rattle.std.proofs.lemmas.List.Recursion.{same_from_clauses}
+use Rattle.std.proofs.lemmas.Bool.{lt-ltb, le-ltb}
+use Rattle.std.specs.List.{list_all}
 use Rattle.kinds.specs.declared.access.Access.{Access}
 use Rattle.kinds.specs.declared.holding.Holding.{Holding}
 use Rattle.order.specs.declared.refusal.Refusal.{Refusal}
@@ -33,31 +34,12 @@ use Rattle.order.proofs.Answering.{at_no, past_yes, past_running, before_running
 use Rattle.order.proofs.Turning.{holds_read, running_within, runs_reach}
 use Rattle.order.proofs.Viewed.{count_of}
 
-pub some_held : (o : Option Holding) → is_some o ≡ is_held o
-some_held None = refl
-some_held (Some a) = refl
+-- the tests of all accesses
+pub known_all : (list : List Access) → list_all (λ a. is_held (holding_of a.code)) list ≡ kinds_known list
+known_all = same_from_clauses _ kinds_known (λ a b. is_held (holding_of a.code) && b) refl (λ _ _. refl) (λ _ _. refl)
 
--- a test of a list, one element on: the whole is what is left, and what is left begins with g
-pub stops : (whole here g rest : Bool) → here ≡ whole → here ≡ (g && rest) → g ≡ false → false ≡ whole
-stops whole here g rest a b e = sym (and_left g rest e) ∙ (sym b ∙ a)
-
-pub goes_on : (whole here g rest : Bool) → here ≡ whole → here ≡ (g && rest) → g ≡ true → rest ≡ whole
-goes_on whole here g rest a b e = sym (b ∙ ap (λ (x : Bool). x && rest) e) ∙ a
-
-pub kinds_more : (list : List Access) (i : ℕ) (d : Access) → i < length list → kinds_known (drop i list) ≡ (is_held (holding_of (get_or list i d).code) && kinds_known (drop (i + 1) list))
-kinds_more list i d h = at_drop_more kinds_known list i d h
-
-pub kinds_end : (list : List Access) (i : ℕ) → length list ≤ i → kinds_known (drop i list) ≡ true
-kinds_end list i h = at_drop_all kinds_known list i h
-
-pub regions_more :
-    (w : World) (list : List Access) (i : ℕ) (d : Access) →
-    i < length list →
-    regions_lie w (drop i list) ≡ (region_lies w (get_or list i d).lo (get_or list i d).hi && regions_lie w (drop (i + 1) list))
-regions_more w list i d h = at_drop_more (regions_lie w) list i d h
-
-pub regions_end : (w : World) (list : List Access) (i : ℕ) → length list ≤ i → regions_lie w (drop i list) ≡ true
-regions_end w list i h = at_drop_all (regions_lie w) list i h
+pub lie_all : (w : World) (list : List Access) → list_all (λ a. region_lies w a.lo a.hi) list ≡ regions_lie w list
+lie_all w = same_from_clauses _ (regions_lie w) (λ a b. region_lies w a.lo a.hi && b) refl (λ _ _. refl) (λ _ _. refl)
 
 -- the questions of a create from each on, after those of a running parent
 abbrev eighth_on : World → ℕ → List Access → List Question

@@ -1,7 +1,7 @@
 -- What two records hold of the cells now, and the questions about one other task in the terms of the records.
 -- Assumes nothing.
 use Rattle.std.proofs.Common.{◌≡◌, ℕ, ◌<◌, Bool, true, false, cond, not, ◌&&◌, ◌||◌, eqb, ◌⊎◌, List, length, get_or, Some, None, Option, sym, refl, ap, ◌∙◌, inl, inr}
-use Rattle.std.proofs.lemmas.Bool.{and_right, cond-true, cases_Bool, or_left, or_right, eq-eqb, ne_eqb}
+use Rattle.std.proofs.lemmas.Bool.{cond-true, cond-false, cases_Bool, or_left, or_right, eq-eqb, ne_eqb}
 use Rattle.kinds.specs.declared.deed.Deed.{Deed}
 use Rattle.kinds.specs.declared.holding.Holding.{Holding}
 use Rattle.order.specs.declared.task.Task as code
@@ -13,33 +13,43 @@ use Rattle.order.specs.Stretches.{end_by}
 use Rattle.order.specs.Tasks.{every, every_cell, is_created, state_of, earlier, ancestor, holds}
 use Rattle.order.specs.View.{world_of, task_of, root}
 use Rattle.kinds.proofs.Every.{clash}
-use Rattle.order.proofs.Bounded.{every_at, every_from}
-use Rattle.order.proofs.Completion.{every_like, ended_is}
+use Rattle.order.proofs.Bounded.{every_at, every_from, every_like}
+use Rattle.order.proofs.Completion.{ended_is}
 use Rattle.order.proofs.Viewed.{read_at}
 
 -- a record whose holdings have ended holds nothing
 ended_none : (k : code.Task) (c : ℕ) → ended k ≡ true → holding_now k c ≡ None
 ended_none k c e = cond-true (ended k) None (held k.runs c) e
 
-meets_none : (h : Option Holding) → meets h None ≡ false
+pub meets_none : (h : Option Holding) → meets h None ≡ false
 meets_none None = refl
 meets_none (Some a) = refl
 
 no_cells : (n : ℕ) (f : ℕ → Bool) → ((c : ℕ) → f c ≡ false) → false ≡ not (every n (λ c. not (f c)))
 no_cells n f e = ap not (sym (every_from n (λ c. not (f c)) (λ c h. ap not (e c))))
 
-module _ (k l : code.Task) (n : ℕ) where
-  pub bars_none : (ended k ≡ true) ⊎ (ended l ≡ true) → false ≡ not (every n (λ c. not (meets (holding_now k c) (if_strong (holding_now l c)))))
-  bars_none (inl e) = no_cells n (λ c. meets (holding_now k c) (if_strong (holding_now l c))) (λ c. ap (λ (h : Option Holding). meets h (if_strong (holding_now l c))) (ended_none k c e))
-  bars_none (inr e) =
-      no_cells n (λ c. meets (holding_now k c) (if_strong (holding_now l c)))
-      (λ c. ap (λ (h : Option Holding). meets (holding_now k c) (if_strong h)) (ended_none l c e) ∙ meets_none (holding_now k c))
+pub none_meet :
+    (q : Option Holding → Option Holding → Bool) →
+    ((b : Option Holding) → q None b ≡ false) →
+    ((a : Option Holding) → q a None ≡ false) →
+    (k l : code.Task) (n : ℕ) →
+    (ended k ≡ true) ⊎ (ended l ≡ true) →
+    false ≡ not (every n (λ c. not (q (holding_now k c) (holding_now l c))))
+none_meet q free other_free k l n (inl e) = no_cells n _ (λ c. ap (λ (h : Option Holding). q h (holding_now l c)) (ended_none k c e) ∙ free (holding_now l c))
+none_meet q free other_free k l n (inr e) = no_cells n _ (λ c. ap (q (holding_now k c)) (ended_none l c e) ∙ other_free (holding_now k c))
 
-  pub shares_none : (ended k ≡ true) ⊎ (ended l ≡ true) → false ≡ not (every n (λ c. not (is_commutative (holding_now k c) && is_commutative (holding_now l c))))
-  shares_none (inl e) = no_cells n (λ c. is_commutative (holding_now k c) && is_commutative (holding_now l c)) (λ c. ap (λ (h : Option Holding). is_commutative h && is_commutative (holding_now l c)) (ended_none k c e))
-  shares_none (inr e) =
-      no_cells n (λ c. is_commutative (holding_now k c) && is_commutative (holding_now l c))
-      (λ c. ap (λ (h : Option Holding). is_commutative (holding_now k c) && is_commutative h) (ended_none l c e) ∙ and_right (is_commutative (holding_now k c)) false refl)
+-- one whose holdings have not ended holds what its runs do
+held_now : (k : code.Task) (c : ℕ) → ended k ≡ false → held k.runs c ≡ holding_now k c
+held_now k c e = sym (cond-false (ended k) None (held k.runs c) e)
+
+pub both_hold :
+    (q : Option Holding → Option Holding → Bool) (k l : code.Task) (n : ℕ) (r : Bool) →
+    ended k ≡ false →
+    ended l ≡ false →
+    r ≡ not (every n (λ c. not (q (held k.runs c) (held l.runs c)))) →
+    r ≡ not (every n (λ c. not (q (holding_now k c) (holding_now l c))))
+both_hold q k l n r ek el e =
+    e ∙ ap not (every_like n _ _ (λ c h. ap (λ (g : Option Holding). not (q g (held l.runs c))) (held_now k c ek) ∙ ap (λ (g : Option Holding). not (q (holding_now k c) g)) (held_now l c el)))
 
 -- the table's record of t, read as k, tells what t holds now
 module _ (cells : ℕ) (tasks : List code.Task) (sound : Sound cells tasks) where

@@ -1,9 +1,10 @@
 -- Runs in ascending order: what they hold of each cell, and tests of each run that decide a test of each cell.
 -- Assumes nothing.
-use Rattle.std.proofs.Common.{◌≡◌, ℕ, ◌+◌, ◌<◌, ◌≤◌, min, max, Bool, true, false, not, ◌&&◌, ◌||◌, eqb, ltb, leb, ◌⊎◌, List, [], ◌∷◌, length, get_or, drop, Some, None, Decides, Option, sym, refl, ap, ◌∙◌, inl, inr, arith}
+use Rattle.std.proofs.Common.{◌≡◌, ℕ, ◌<◌, ◌≤◌, min, max, Bool, true, false, not, ◌&&◌, ◌||◌, eqb, ltb, leb, ◌⊎◌, List, [], ◌∷◌, Some, None, Decides, Option, sym, refl, ap, ◌∙◌, inl, inr, arith}
 use Rattle.std.proofs.lemmas.Bool.{and_parts, and_cases, and_from, and_left, and_right, or_cases, cases_lt, cond-true, cond-false, cond_both, not-true, not_from_false, ltb-true, leb-true, eqb-true, lt-ltb, le-ltb, le-leb, lt-leb}
-use Rattle.std.proofs.lemmas.List.{at_drop_more, at_drop_all}
 use Rattle.std.proofs.lemmas.Bool.Decides.{same_from_decides}
+use Rattle.std.specs.List.{find, list_all, list_any}
+use Rattle.std.specs.Option.{MatchOption, IsSomeAnd, option_map}
 use Rattle.kinds.specs.declared.holding.Holding.{Holding}
 use Rattle.kinds.specs.declared.kind.Kind.TheVariants.{In}
 use Rattle.order.specs.declared.run.Run.{Run}
@@ -68,11 +69,6 @@ end_later m n (r ∷ more) h e =
     let a = leb-true r.hi m p.0 in
     and_from (leb r.hi n) (end_by n more) (le-leb r.hi n (omega arith)) (end_later m n more h p.1)
 
--- the test holds of each run
-abbrev pub all_runs : (Run → Bool) → List Run → Bool
-all_runs t [] = true
-all_runs t (r ∷ more) = t r && all_runs t more
-
 -- a test g of what is held of each cell, which yields where nothing is held, comes out of a test t of each run
 module _
     (t : Run → Bool)
@@ -80,7 +76,7 @@ module _
     (none : (c : ℕ) → g None c ≡ true)
     (each : (r : Run) → r.lo < r.hi → Decides (t r) ((c : ℕ) → r.lo ≤ c → c < r.hi → g (Some r.holding) c ≡ true))
   where
-    pub each_run : (xs : List Run) → longest xs ≡ true → Decides (all_runs t xs) ((c : ℕ) → g (held_at xs c) c ≡ true)
+    pub each_run : (xs : List Run) → longest xs ≡ true → Decides (list_all t xs) ((c : ℕ) → g (held_at xs c) c ≡ true)
     each_run [] e = ((λ _. none), (λ _. refl))
     each_run (r ∷ more) e = go (each_run more p.2)
       where
@@ -96,15 +92,15 @@ module _
             ap (λ o. g o c) (sym (cond-false (within r.lo r.hi c) (Some r.holding) (held_at more c) (within_after r.lo r.hi c a)))
             ∙ h
 
-        go : Decides (all_runs t more) ((c : ℕ) → g (held_at more c) c ≡ true) → Decides (t r && all_runs t more) ((c : ℕ) → g (held_at (r ∷ more) c) c ≡ true)
+        go : Decides (list_all t more) ((c : ℕ) → g (held_at more c) c ≡ true) → Decides (t r && list_all t more) ((c : ℕ) → g (held_at (r ∷ more) c) c ≡ true)
         go ih = (
           (λ h c.
-              let q = and_parts (t r) (all_runs t more) h in
+              let q = and_parts (t r) (list_all t more) h in
               cond_both (within r.lo r.hi c) (Some r.holding) (held_at more c) (λ o. g o c ≡ true)
               (λ w. let k = within_parts r.lo r.hi c w in (each r p.0).0 q.0 c k.0 k.1)
               (λ w. ih.0 q.1 c)),
           (λ f.
-              and_from (t r) (all_runs t more) ((each r p.0).1 (λ c a b. first c (within_in r.lo r.hi c a b) (f c)))
+              and_from (t r) (list_all t more) ((each r p.0).1 (λ c a b. first c (within_in r.lo r.hi c a b) (f c)))
               (ih.1 (λ c. other c (f c) (cases_lt c r.hi)))),
         )
 
@@ -124,9 +120,9 @@ pub runs_decide :
     (xs : List Run) (n : ℕ) →
     longest xs ≡ true →
     end_by n xs ≡ true →
-    all_runs t xs ≡ every n (λ c. g (held_at xs c) c)
+    list_all t xs ≡ every n (λ c. g (held_at xs c) c)
 runs_decide t g none each xs n e h =
-    same_from_decides (all_runs t xs) (every n (λ c. g (held_at xs c) c)) (each_run t g none each xs e)
+    same_from_decides (list_all t xs) (every n (λ c. g (held_at xs c) c)) (each_run t g none each xs e)
     (every_cell_decides n (λ c. g (held_at xs c) c) (λ c a. ap (λ o. g o c) (none_beyond n xs c h a) ∙ none c))
 
 -- each cell of a region passes
@@ -156,7 +152,7 @@ pub runs_each :
     (xs : List Run) (n : ℕ) →
     longest xs ≡ true →
     end_by n xs ≡ true →
-    all_runs (over g) xs ≡ every n (λ c. g (held_at xs c) c)
+    list_all (over g) xs ≡ every n (λ c. g (held_at xs c) c)
 runs_each g none =
     runs_decide (over g) g none
     (λ r _. region_each r.lo r.hi r.hi (g (Some r.holding)) (omega arith))
@@ -168,7 +164,7 @@ pub runs_plain :
     (xs : List Run) (n : ℕ) →
     longest xs ≡ true →
     end_by n xs ≡ true →
-    all_runs (λ r. not (q (Some r.holding))) xs ≡ every n (λ c. not (q (held_at xs c)))
+    list_all (λ r. not (q (Some r.holding))) xs ≡ every n (λ c. not (q (held_at xs c)))
 runs_plain q none =
     runs_decide (λ r. not (q (Some r.holding))) (λ h c. not (q h)) (λ c. ap not none)
     (λ r h. ((λ y c a b. y), (λ f. f r.lo (omega arith) h)))
@@ -179,7 +175,7 @@ pub runs_beside :
     q None ≡ false →
     (lo hi : ℕ) (xs : List Run) →
     longest xs ≡ true →
-    all_runs (beside q lo hi) xs
+    list_all (beside q lo hi) xs
     ≡ every hi (λ c. not (within lo hi c) || not (q (held_at xs c)))
 runs_beside q none lo hi xs e =
     same_from_decides _ _
@@ -223,21 +219,68 @@ runs_beside q none lo hi xs e =
             (and_right _ _ (not-true _ (then _ (not (q (Some r.holding))) (f (max lo r.lo) (omega arith) (omega arith)) w)))
         from f (inr k) = not_from_false _ (and_left _ _ (le-ltb _ _ k))
 
+-- some run passes a test where not all pass its opposite
+some_run : (t u : Run → Bool) → ((r : Run) → t r ≡ not (u r)) → (xs : List Run) → list_any t xs ≡ not (list_all u xs)
+some_run t u e [] = refl
+some_run t u e (r ∷ more) = ap (λ b. b || list_any t more) (e r) ∙ (ap (λ b. not (u r) || b) (some_run t u e more) ∙ de_morgan (u r) (list_all u more))
+  where
+    de_morgan : (a b : Bool) → (not a || not b) ≡ not (a && b)
+    de_morgan true b = refl
+    de_morgan false b = refl
+
+twice : (b : Bool) → b ≡ not (not b)
+twice true = refl
+twice false = refl
+
+-- the three tests, asked of some run
+pub some_each :
+    (g : Option Holding → ℕ → Bool) →
+    ((c : ℕ) → g None c ≡ true) →
+    (xs : List Run) (n : ℕ) →
+    longest xs ≡ true →
+    end_by n xs ≡ true →
+    list_any (λ r. not (over g r)) xs ≡ not (every n (λ c. g (held_at xs c) c))
+some_each g none xs n e h = some_run (λ r. not (over g r)) (over g) (λ r. refl) xs ∙ ap not (runs_each g none xs n e h)
+
+pub some_plain :
+    (q : Option Holding → Bool) →
+    q None ≡ false →
+    (xs : List Run) (n : ℕ) →
+    longest xs ≡ true →
+    end_by n xs ≡ true →
+    list_any (λ r. q (Some r.holding)) xs ≡ not (every n (λ c. not (q (held_at xs c))))
+some_plain q none xs n e h =
+    some_run (λ r. q (Some r.holding)) (λ r. not (q (Some r.holding))) (λ r. twice (q (Some r.holding))) xs
+    ∙ ap not (runs_plain q none xs n e h)
+
+pub some_beside :
+    (q : Option Holding → Bool) →
+    q None ≡ false →
+    (lo hi : ℕ) (xs : List Run) →
+    longest xs ≡ true →
+    list_any (λ r. ltb (max lo r.lo) (min hi r.hi) && q (Some r.holding)) xs
+    ≡ not (every hi (λ c. not (within lo hi c) || not (q (held_at xs c))))
+some_beside q none lo hi xs e =
+    some_run (λ r. ltb (max lo r.lo) (min hi r.hi) && q (Some r.holding)) (beside q lo hi) (λ r. twice (ltb (max lo r.lo) (min hi r.hi) && q (Some r.holding))) xs
+    ∙ ap not (runs_beside q none lo hi xs e)
+
+-- what the run that has the cell, if one was found, holds
+pub held_found : (c : ℕ) (xs : List Run) → option_map (λ r. r.holding) (find (λ r. within r.lo r.hi c) xs) ≡ held_at xs c
+held_found c [] = refl
+held_found c (r ∷ more) =
+    cond_both (within r.lo r.hi c) (Some r) (find (λ s. within s.lo s.hi c) more) (λ o. option_map (λ s. s.holding) o ≡ held_at (r ∷ more) c)
+    (λ w. sym (cond-true (within r.lo r.hi c) (Some r.holding) (held_at more c) w))
+    (λ w. held_found c more ∙ sym (cond-false (within r.lo r.hi c) (Some r.holding) (held_at more c) w))
+
+pub read_found :
+    {A : Type 0} (v : A → Run) (P : A → Holding → Type 0) (o : Option A) (r : Option Holding) →
+    MatchOption o (r ≡ None) (λ x. IsSomeAnd r (P x)) →
+    ((x : A) (h : Holding) → P x h → h ≡ (v x).holding) →
+    r ≡ option_map (λ s. s.holding) (option_map v o)
+read_found v P None r e f = e
+read_found v P (Some x) None e f = absurd e
+read_found v P (Some x) (Some h) e f = ap Some (f x h e)
+
 -- what a read beyond the end would give
 abbrev pub blank : Run
 blank = record { lo = 0; hi = 0; holding = record { kind = In; strong = false } }
-
--- the runs ys pass the test if those of xs from i on do
-abbrev pub Passed : (Run → Bool) → List Run → List Run → ℕ → Type 0
-Passed t xs ys i = all_runs t (drop i xs) ≡ all_runs t ys
-
--- the loops that put a test to each run: one that fails, one that passes, and the end
-module _ (t : Run → Bool) (xs ys : List Run) (i : ℕ) (inv : Passed t xs ys i) where
-  pub one_fails : i < length xs → t (get_or xs i blank) ≡ false → all_runs t ys ≡ false
-  one_fails h e = sym inv ∙ (at_drop_more (all_runs t) xs i blank h ∙ and_left _ _ e)
-
-  pub one_passes : i < length xs → t (get_or xs i blank) ≡ true → Passed t xs ys (i + 1)
-  one_passes h e = sym (at_drop_more (all_runs t) xs i blank h ∙ ap (λ b. b && all_runs t (drop (i + 1) xs)) e) ∙ inv
-
-  pub all_pass : length xs ≤ i → all_runs t ys ≡ true
-  all_pass h = sym inv ∙ at_drop_all (all_runs t) xs i h

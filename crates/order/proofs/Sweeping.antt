@@ -1,7 +1,7 @@
 -- A sweep over the bounds of accesses: between two bounds all cells are asked alike, and each step passes a bound.
 -- Assumes nothing.
-use Rattle.std.proofs.Common.{◌≡◌, ℕ, ◌+◌, ◌-◌, ◌*◌, ◌<◌, ◌≤◌, Bool, true, false, cond, ◌&&◌, ltb, leb, ◌⊎◌, List, [], ◌∷◌, length, get_or, drop, Some, None, Option, sym, refl, ap, ◌∙◌, subst, inl, inr, arith}
-use Rattle.std.proofs.lemmas.List.{at_drop_more, at_drop_all}
+use Rattle.std.proofs.Common.{◌≡◌, ℕ, ◌+◌, ◌-◌, ◌*◌, ◌<◌, ◌≤◌, Bool, true, false, cond, ◌&&◌, ltb, leb, ◌⊎◌, List, [], ◌∷◌, length, Some, None, Option, sym, refl, ap, ◌∙◌, subst, inl, inr, arith}
+use Rattle.std.specs.List.{fold}
 use Rattle.std.proofs.lemmas.Bool.{and_parts, and_from, cases_lt, cond-true, cond-false, cond_both, lt-ltb, le-ltb, ltb-true, ltb-false, le-leb, lt-leb, leb-true}
 use Rattle.kinds.specs.declared.access.Access.{Access}
 use Rattle.kinds.specs.declared.holding.Holding.{Holding}
@@ -18,22 +18,22 @@ use Rattle.order.proofs.Stretched.{within_in, within_before, within_after, first
 abbrev pub no_access : Access
 no_access = record { lo = 0; hi = 0; code = 0 }
 
--- the loop that combines what each access asks
+-- what a fold over the accesses gives
 combine_none : (h : Option Holding) → combine_held h None ≡ h
 combine_none None = refl
 combine_none (Some a) = refl
 
-pub one_asked :
-    (xs : List Access) (c i : ℕ) (all : Option Holding) →
-    combine_held all (asked (drop i xs) c) ≡ asked xs c →
-    i < length xs →
-    combine_held (combine_held all (asked_by (get_or xs i no_access) c)) (asked (drop (i + 1) xs) c) ≡ asked xs c
-one_asked xs c i all inv h =
-    combine_held_lawful.associates all (asked_by (get_or xs i no_access) c) (asked (drop (i + 1) xs) c)
-    ∙ (ap (combine_held all) (sym (at_drop_more (λ l. asked l c) xs i no_access h)) ∙ inv)
+asked_on : (xs : List Access) (c : ℕ) (h : Option Holding) → fold (λ held a. combine_held held (asked_by a c)) h xs ≡ combine_held h (asked xs c)
+asked_on [] c h = sym (combine_none h)
+asked_on (a ∷ more) c h = asked_on more c (combine_held h (asked_by a c)) ∙ combine_held_lawful.associates h (asked_by a c) (asked more c)
 
-pub all_asked : (xs : List Access) (c i : ℕ) (all : Option Holding) → combine_held all (asked (drop i xs) c) ≡ asked xs c → length xs ≤ i → all ≡ asked xs c
-all_asked xs c i all inv h = sym (combine_none all) ∙ (ap (combine_held all) (sym (at_drop_all (λ l. asked l c) xs i h)) ∙ inv)
+pub asked_fold : (xs : List Access) (c : ℕ) → fold (λ held a. combine_held held (asked_by a c)) None xs ≡ asked xs c
+asked_fold xs c = asked_on xs c None
+
+-- so does the one that finds the nearest bound
+pub nearest_fold : (pos : ℕ) (xs : List Access) (best : Option ℕ) → fold (λ b a. better pos a.hi (better pos a.lo b)) best xs ≡ nearest pos xs best
+nearest_fold pos [] best = refl
+nearest_fold pos (a ∷ more) best = nearest_fold pos more (better pos a.hi (better pos a.lo best))
 
 -- a bound that is found lies at d or before
 abbrev AtMost : Option ℕ → ℕ → Type 0

@@ -1,8 +1,9 @@
 -- A walk over runs in ascending order, from run to run as long as they touch and pass a test, finds whether a region passes it.
 -- Assumes nothing.
 use Rattle.std.proofs.Common.{◌≡◌, ℕ, ◌<◌, ◌≤◌, Bool, true, false, cond, not, ◌&&◌, ◌||◌, leb, ◌⊎◌, List, [], ◌∷◌, Some, None, Decides, Option, sym, refl, ap, ◌∙◌, inl, inr, arith}
-use Rattle.std.proofs.lemmas.Bool.{and_parts, and_cases, and_from, and_left, and_right, cases_lt, cases_Bool, cond-true, cond-false, leb-true, le-leb}
+use Rattle.std.proofs.lemmas.Bool.{and_parts, and_cases, cases_lt, cases_Bool, cond-true, cond-false, leb-true, le-leb}
 use Rattle.std.proofs.lemmas.Bool.Decides.{same_from_decides}
+use Rattle.std.specs.List.{fold}
 use Rattle.kinds.specs.declared.holding.Holding.{Holding}
 use Rattle.order.specs.declared.run.Run.{Run}
 use Rattle.kinds.specs.Kinds.{within}
@@ -15,19 +16,9 @@ use Rattle.order.proofs.Stretched.{within_in, within_after, within_parts, first_
 abbrev pub step_on : (Option Holding → Bool) → Run → ℕ → ℕ
 step_on q r pos = cond (within r.lo r.hi pos && q (Some r.holding)) r.hi pos
 
-pub steps : (q : Option Holding → Bool) (r : Run) (pos : ℕ) → within r.lo r.hi pos ≡ true → q (Some r.holding) ≡ true → step_on q r pos ≡ r.hi
-steps q r pos a b = cond-true _ _ _ (and_from _ _ a b)
-
-pub stays_away : (q : Option Holding → Bool) (r : Run) (pos : ℕ) → within r.lo r.hi pos ≡ false → step_on q r pos ≡ pos
-stays_away q r pos a = cond-false _ _ _ (and_left _ _ a)
-
-pub stays_barred : (q : Option Holding → Bool) (r : Run) (pos : ℕ) → q (Some r.holding) ≡ false → step_on q r pos ≡ pos
-stays_barred q r pos b = cond-false _ _ _ (and_right _ _ b)
-
 -- where it stands after all of them
 abbrev pub walk : (Option Holding → Bool) → List Run → ℕ → ℕ
-walk q [] pos = pos
-walk q (r ∷ more) pos = walk q more (step_on q r pos)
+walk q xs pos = fold (λ at r. step_on q r at) pos xs
 
 -- the cells from pos up to, not including, e pass, and e does not
 abbrev Walked : (Option Holding → Bool) → (ℕ → Option Holding) → ℕ → ℕ → Type 0

@@ -10,10 +10,7 @@ impl Task {
     pub(crate) fn is_complete(&self) -> bool
         ensures { result ≡ complete self.now }
     {
-        match self.state {
-            State::Finished => self.open == 0,
-            _ => false,
-        }
+        self.state == State::Finished && self.open == 0
     }
 
     // It has made a child.

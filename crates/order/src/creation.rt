@@ -17,12 +17,9 @@ const MOST_ACCESSES: usize = 8;
 fn kinds_known(accesses: &[Access]) -> bool
     ensures { result ≡ kinds_known accesses.now }
 {
-    for access in accesses {
-        if Holding::from_code(access.code).is_none() {
-            return false;
-        }
-    }
-    true
+    accesses
+        .iter()
+        .all(|access| Holding::try_from(access.code).is_ok())
 }
 
 impl Table {
@@ -37,12 +34,9 @@ impl Table {
     fn has_regions(&self, accesses: &[Access]) -> bool
         ensures { result ≡ regions_lie (view self.now) accesses.now }
     {
-        for access in accesses {
-            if !self.has_region(access.lo, access.hi) {
-                return false;
-            }
-        }
-        true
+        accesses
+            .iter()
+            .all(|access| self.has_region(access.lo, access.hi))
     }
 
     // What a new task with these accesses would hold, if the parent may create it.

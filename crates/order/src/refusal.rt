@@ -1,26 +1,26 @@
 ghost use Rattle.std.specs.Prelude.{◌≡◌};
 ghost use Rattle.order.specs.Refusals.{refusal_number};
 
-// Why a call is refused, as far as no store decides it.
-#[derive(Clone, Copy, PartialEq, Eq)]
+// Why a call is refused, as far as no store decides it: each reason with its number. 17 is the store's own.
+#[derive(Clone, Copy, Debug, PartialEq, Eq)]
 pub enum Refusal {
-    NoSuchTask,
-    WrongState,
-    TooManyTasks,
-    TooManyAccesses,
-    BadRegion,
-    UnknownKind,
-    CommutativeParent,
-    NotCovered,
-    EarlierConflict,
-    CommutativeBusy,
-    ChildrenOpen,
-    NotHeld,
-    TooManyRuns,
-    NoSuchCell,
-    NoFittingHolding,
-    DescendantConflict,
-    ShortList,
+    NoSuchTask = 1,
+    WrongState = 2,
+    TooManyTasks = 3,
+    TooManyAccesses = 4,
+    BadRegion = 5,
+    UnknownKind = 6,
+    CommutativeParent = 7,
+    NotCovered = 8,
+    EarlierConflict = 9,
+    CommutativeBusy = 10,
+    ChildrenOpen = 11,
+    NotHeld = 12,
+    TooManyRuns = 13,
+    NoSuchCell = 14,
+    NoFittingHolding = 15,
+    DescendantConflict = 16,
+    ShortList = 18,
 }
 
 impl Refusal {
@@ -28,24 +28,6 @@ impl Refusal {
     pub fn number(self) -> u8
         ensures { result ≡ refusal_number self }
     {
-        match self {
-            Refusal::NoSuchTask => 1,
-            Refusal::WrongState => 2,
-            Refusal::TooManyTasks => 3,
-            Refusal::TooManyAccesses => 4,
-            Refusal::BadRegion => 5,
-            Refusal::UnknownKind => 6,
-            Refusal::CommutativeParent => 7,
-            Refusal::NotCovered => 8,
-            Refusal::EarlierConflict => 9,
-            Refusal::CommutativeBusy => 10,
-            Refusal::ChildrenOpen => 11,
-            Refusal::NotHeld => 12,
-            Refusal::TooManyRuns => 13,
-            Refusal::NoSuchCell => 14,
-            Refusal::NoFittingHolding => 15,
-            Refusal::DescendantConflict => 16,
-            Refusal::ShortList => 18,
-        }
+        self as u8
     }
 }

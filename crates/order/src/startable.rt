@@ -38,24 +38,14 @@ impl Table {
         requires { t < length self.now.tasks.items }
         ensures { result ≡ no_earlier_conflict (view self.now) t }
     {
-        for u in 0..self.len() {
-            if !self.keeps_order(t, u) {
-                return false;
-            }
-        }
-        true
+        (0..self.len()).all(|u| self.keeps_order(t, u))
     }
 
     pub(crate) fn commutative_free(&self, t: u16) -> bool
         requires { t < length self.now.tasks.items }
         ensures { result ≡ commutative_free (view self.now) t }
     {
-        for u in 0..self.len() {
-            if !self.takes_turns(t, u) {
-                return false;
-            }
-        }
-        true
+        (0..self.len()).all(|u| self.takes_turns(t, u))
     }
 
     // Whether task t may start now, else why not.

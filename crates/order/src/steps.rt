@@ -21,12 +21,7 @@ impl Table {
         requires { t < length self.now.tasks.items }
         ensures { result ≡ no_descendant_conflict (view self.now) deed t cell }
     {
-        for u in 0..self.len() {
-            if !self.stands_aside(deed, t, cell, u) {
-                return false;
-            }
-        }
-        true
+        (0..self.len()).all(|u| self.stands_aside(deed, t, cell, u))
     }
 
     // Whether task t may take the step on the cell now, else why not.

@@ -16,9 +16,10 @@ fn asks(access: &Access, cell: u16) -> Option<Holding>
     ensures { result ≡ asked_by access.now cell }
 {
     if access.lo <= cell && cell < access.hi {
-        return Holding::from_code(access.code);
+        Holding::try_from(access.code).ok()
+    } else {
+        None
     }
-    None
 }
 
 fn combine_held(first: Option<Holding>, second: Option<Holding>) -> Option<Holding>
@@ -26,8 +27,7 @@ fn combine_held(first: Option<Holding>, second: Option<Holding>) -> Option<Holdi
 {
     match (first, second) {
         (Some(a), Some(b)) => Some(a.combine(b)),
-        (Some(a), None) => Some(a),
-        (None, b) => b,
+        _ => first.or(second),
     }
 }
 
@@ -35,22 +35,16 @@ fn combine_held(first: Option<Holding>, second: Option<Holding>) -> Option<Holdi
 fn asked_at(accesses: &[Access], cell: u16) -> Option<Holding>
     ensures { result ≡ asked accesses.now cell }
 {
-    let mut all = None;
-    for access in accesses {
-        all = combine_held(all, asks(access, cell));
-    }
-    all
+    accesses.iter().fold(None, |held, access| {
+        combine_held(held, asks(access, cell))
+    })
 }
 
 // The better of a bound and the best one so far, among those above pos.
 fn better_bound(pos: u16, bound: u16, best: Option<u16>) -> Option<u16>
     ensures { result ≡ better pos bound best }
 {
-    let sooner = match best {
-        Some(other) => bound < other,
-        None => true,
-    };
-    if pos < bound && sooner {
+    if pos < bound && best.is_none_or(|other| bound < other) {
         Some(bound)
     } else {
         best
@@ -61,11 +55,9 @@ fn better_bound(pos: u16, bound: u16, best: Option<u16>) -> Option<u16>
 fn next_bound(accesses: &[Access], pos: u16) -> Option<u16>
     ensures { result ≡ nearest pos accesses.now None }
 {
-    let mut best = None;
-    for access in accesses {
-        best = better_bound(pos, access.hi, better_bound(pos, access.lo, best));
-    }
-    best
+    accesses.iter().fold(None, |best, access| {
+        better_bound(pos, access.hi, better_bound(pos, access.lo, best))
+    })
 }
 
 impl Run {
@@ -73,9 +65,7 @@ impl Run {
     fn goes_on(&self, next: &Run) -> bool
         ensures { result ≡ goes_on self.now next.now }
     {
-        self.hi == next.lo
-            && self.holding.kind == next.holding.kind
-            && self.holding.strong == next.holding.strong
+        self.hi == next.lo && self.holding == next.holding
     }
 }
 

@@ -1,14 +1,12 @@
-use Rattle.std.proofs.Common.{◌+◌, drop, ap, ◌∙◌}
-use Rattle.kinds.specs.Kinds.{asked, combine_held}
-use Rattle.order.proofs.Sweeping.{one_asked, all_asked}
+use Rattle.std.proofs.Common.{None, ◌∙◌, rules}
+use Rattle.std.proofs.lemmas.Iterator.{YieldsList-from_slice}
+use Rattle.std.proofs.lemmas.Iterator.Consumers.{fold_from_yields_List}
+use Rattle.kinds.specs.Kinds.{combine_held}
+use Rattle.order.specs.Sweeping.{asked_by}
+use Rattle.order.proofs.Sweeping.{asked_fold}
 use Rattle.order.proofs.sweep.asked_at.Goals as goal
-
-pub loop-access-preserved : goal.loop-access-preserved
-loop-access-preserved c =
-    ap (λ h. combine_held h (asked (drop (c.loop-access.access-index + 1) c.args.accesses.now) c.args.cell))
-    (c.combine_held-all.ensures ∙ ap (combine_held c.loop-access.all) c.asks.ensures)
-    ∙ one_asked c.args.accesses.now c.args.cell c.loop-access.access-index c.loop-access.all c.loop-access.invariant c.loop-access-test.true
 
 pub returns : goal.returns
 returns c =
-    all_asked c.args.accesses.now c.args.cell c.loop-access.access-index c.loop-access.all c.loop-access.invariant c.loop-access-test.false
+    fold_from_yields_List _ (λ h a. combine_held h (asked_by a c.args.cell)) None _ c.fold.ensures.ran (YieldsList-from_slice c.args.accesses.now cc) (λ a x b q k. search rules)
+    ∙ asked_fold c.args.accesses.now c.args.cell

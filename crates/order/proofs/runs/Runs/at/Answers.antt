@@ -1,26 +1,14 @@
-use Rattle.std.proofs.Common.{sym, ap, ◌∙◌}
-use Rattle.std.proofs.lemmas.List.{at_drop_more, at_drop_all}
-use Rattle.std.proofs.lemmas.Bool.{cond-true, cond-false}
-use Rattle.order.specs.Stretches.{held_at}
-use Rattle.order.proofs.Stretched.{blank}
+use Rattle.std.proofs.Common.{ap, ◌∙◌, rules, tests}
+use Rattle.std.specs.Option.{option_map}
+use Rattle.std.proofs.lemmas.Iterator.{YieldsList-from_slice}
+use Rattle.std.proofs.lemmas.Iterator.Search.{find_from_yields_List}
+use Rattle.kinds.specs.Kinds.{within}
+use Rattle.order.specs.Holdings.{in_use}
+use Rattle.order.proofs.Stretched.{read_found, held_found}
 use Rattle.order.proofs.runs.Runs.at.Goals as goal
-
-pub loop-run-init : goal.loop-run-init
-loop-run-init c = ap (λ l. held_at l c.args.cell) c.as_slice-run-items.ensures
-
-pub returns-then-contains : goal.returns-then-contains
-returns-then-contains c =
-    sym (cond-true _ _ _ (sym c.if-contains.ensures))
-    ∙ (sym (at_drop_more (λ l. held_at l c.args.cell) c.as_slice-run-items.result.now c.loop-run.run-index blank c.loop-run-test.true)
-    ∙ c.loop-run.invariant)
-
-pub loop-run-preserved : goal.loop-run-preserved
-loop-run-preserved c =
-    sym (cond-false _ _ _ (sym c.if-contains.ensures))
-    ∙ (sym (at_drop_more (λ l. held_at l c.args.cell) c.as_slice-run-items.result.now c.loop-run.run-index blank c.loop-run-test.true)
-    ∙ c.loop-run.invariant)
 
 pub returns : goal.returns
 returns c =
-    sym (at_drop_all (λ l. held_at l c.args.cell) c.as_slice-run-items.result.now c.loop-run.run-index c.loop-run-test.false)
-    ∙ c.loop-run.invariant
+    read_found (λ x. x.now) _ c.find.result c.map.result c.map.ensures.cases (λ x h p. search rules)
+    ∙ (ap (option_map (λ r. r.holding)) (find_from_yields_List (λ r. within r.lo r.hi c.args.cell) _ _ c.find.result c.find.ensures.ran (YieldsList-from_slice (in_use c.args.self.now) cc) (λ x b q k. search (rules, tests)))
+    ∙ held_found c.args.cell (in_use c.args.self.now))

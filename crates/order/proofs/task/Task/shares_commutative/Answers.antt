@@ -1,12 +1,7 @@
-use Rattle.std.proofs.Common.{sym, ◌∙◌, inl, inr}
-use Rattle.order.proofs.Pairwise.{shares_none}
+use Rattle.std.proofs.Common.{◌&&◌, refl, rules, tests}
+use Rattle.std.proofs.lemmas.Bool.{and_right}
+use Rattle.kinds.specs.Kinds.{is_commutative}
 use Rattle.order.proofs.task.Task.shares_commutative.Goals as goal
-use Rattle.order.proofs.task.Task.shares_commutative.Goals.{then-ended-via-then-ended, then-ended-via-else-ended+then-ended-2}
 
-pub returns-then-ended : goal.returns-then-ended
-returns-then-ended c n h =
-    elim c.then-ended.branch [
-      | then-ended-via-then-ended w ↦ shares_none c.args.self.now c.args.other.now n (inl (sym c.ended.ensures ∙ w.if-ended.true))
-      | then-ended-via-else-ended+then-ended-2 w ↦
-          shares_none c.args.self.now c.args.other.now n (inr (sym w.ended-else-ended.ensures ∙ w.if-ended-2.true))
-    ]
+pub returns : goal.returns
+returns c = c.meets.ensures (λ h g. is_commutative h && is_commutative g) (record { free = λ b. refl; other_free = λ a. and_right (is_commutative a) _ refl; held = λ a b r e. search (rules, tests) })
