@@ -5,7 +5,6 @@ pub mod Viewed
 pub mod Completion
 pub mod Climbing
 pub mod Pairwise
-pub mod Asking
 pub mod Listing
 pub mod Stretched
 pub mod Walking
@@ -18,5 +17,6 @@ pub mod Tallies
 pub mod Answering
 pub mod Releasing
 pub mod Turning
+pub mod Asking
 pub mod Creating
 pub mod Adding

@@ -1,5 +1,5 @@
 -- A table read as the tasks of the rules, and what its calls answer and make of them.
-use Rattle.std.specs.Prelude.{◌≡◌, ℕ, true, false, cond, List, map, reverse, drop, None, Ok, Err, vec_items, Result, nat_lt, slice_index_or}
+use Rattle.std.specs.Prelude.{◌≡◌, ℕ, ◌<◌, true, false, cond, List, map, length, reverse, drop, None, Ok, Err, vec_items, Result, nat_lt, slice_index_or}
 use Rattle.kinds.specs.declared.kind.Kind.TheVariants.{Inout}
 use Rattle.order.specs.declared.refusal.Refusal.{Refusal}
 use Rattle.order.specs.declared.state.State.TheVariants.{Running}
@@ -30,6 +30,14 @@ world_of cells tasks =
 
 abbrev pub view : Table → World
 view b = world_of b.cells (vec_items b.tasks)
+
+-- t is the number of a task in the table
+abbrev pub Known : Table → ℕ → Type 0
+Known b t = t < length (vec_items b.tasks)
+
+-- k is the table's record of t
+abbrev pub RecordOf : Table → ℕ → code.Task → Type 0
+RecordOf b t k = k ≡ slice_index_or (vec_items b.tasks) t k
 
 -- the number that an answer stands for: that of its refusal, or 0
 abbrev pub answer_number : {U : Type 0} → Result U Refusal → ℕ

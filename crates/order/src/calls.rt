@@ -4,7 +4,7 @@ ghost use Rattle.order.specs.declared.task.Task.{Task};
 ghost use Rattle.order.specs.Asked.{running_questions};
 ghost use Rattle.order.specs.Questions.{create, finish, first_no, first_number, release, resume, start, wait};
 ghost use Rattle.order.specs.Tasks.{count, new};
-ghost use Rattle.order.specs.View.{Did, answer_number, view};
+ghost use Rattle.order.specs.View.{Did, Known, RecordOf, answer_number, view};
 
 use crate::counters::tell_ancestors;
 use crate::refusal::Refusal;
@@ -17,26 +17,23 @@ use crate::turns::Turn;
 use kinds::access::Access;
 
 impl Table {
-    // Whether t was created.
-    fn known(&self, t: u16) -> Result<(), Refusal>
-        ensures { MatchResult result (λ _. t < length self.now.tasks.items) (λ e. (e ≡ NoSuchTask) × (length self.now.tasks.items ≤ t)) }
+    // The record of t, if it was created.
+    pub(crate) fn known(&self, t: u16) -> Result<&Task, Refusal>
+        ensures { MatchResult result (λ k. Known self.now t × RecordOf self.now t k.now) (λ e. (e ≡ NoSuchTask) × (length self.now.tasks.items ≤ t)) }
     {
-        if (t as usize) < self.tasks.len() {
-            Ok(())
-        } else {
-            Err(Refusal::NoSuchTask)
-        }
+        self.tasks.get(t as usize).ok_or(Refusal::NoSuchTask)
     }
 
-    // Whether t was created and is running.
-    pub(crate) fn running(&self, t: u16) -> Result<(), Refusal>
-        ensures { answer_number result ≡ first_number (running_questions (view self.now) t) }
+    // The record of t, if it was created and is running.
+    pub(crate) fn running(&self, t: u16) -> Result<&Task, Refusal>
+        ensures number { answer_number result ≡ first_number (running_questions (view self.now) t) }
+        ensures stands { IfOk result (λ k. RecordOf self.now t k.now) }
     {
-        self.known(t)?;
-        if !self.tasks[t as usize].is_running() {
+        let task = self.known(t)?;
+        if !task.is_running() {
             return Err(Refusal::WrongState);
         }
-        Ok(())
+        Ok(task)
     }
 
     // The task starts.
@@ -59,8 +56,7 @@ impl Table {
     pub fn resume(&mut self, t: u16) -> Result<(), Refusal>
         ensures { Did (view self.old) (resume t) result (view self.new) }
     {
-        self.known(t)?;
-        self.tasks[t as usize].may_resume()?;
+        self.known(t)?.may_resume()?;
         self.tasks[t as usize].turn(Turn::Resume)
     }
 

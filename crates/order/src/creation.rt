@@ -43,7 +43,7 @@ impl Table {
     pub(crate) fn may_create(&self, parent: u16, accesses: &[Access]) -> Result<Runs, Refusal>
         ensures { MatchResult result (λ s. (0 ≡ first_number (create_questions (view self.now) parent accesses.now)) × Asks self.now.cells accesses.now s) (λ e. refusal_number e ≡ first_number (create_questions (view self.now) parent accesses.now)) }
     {
-        self.running(parent)?;
+        let task = self.running(parent)?;
         if self.tasks.len() >= MOST_TASKS {
             return Err(Refusal::TooManyTasks);
         }
@@ -56,12 +56,11 @@ impl Table {
         if !kinds_known(accesses) {
             return Err(Refusal::UnknownKind);
         }
-        let held = &self.tasks[parent as usize].runs;
-        if held.has_commutative() {
+        if task.runs.has_commutative() {
             return Err(Refusal::CommutativeParent);
         }
         let asked = Runs::of_accesses(accesses);
-        if !held.covers_all(&asked) {
+        if !task.runs.covers_all(&asked) {
             return Err(Refusal::NotCovered);
         }
         Ok(asked)

@@ -1,4 +1,4 @@
-ghost use Rattle.std.specs.Prelude.{◌≡◌, ℕ, Bool, min, max, not, ◌&&◌, ◌||◌, Some, Option, nat_lt};
+ghost use Rattle.std.specs.Prelude.{◌≡◌, ℕ, Bool, min, max, not, ◌||◌, Some, Option, nat_lt};
 ghost use Rattle.kinds.specs.declared.holding.Holding.{Holding};
 ghost use Rattle.kinds.specs.Kinds.{within};
 ghost use Rattle.order.specs.Holdings.{held, Compares, SomeCell};
@@ -10,18 +10,18 @@ use kinds::holding::Holding;
 
 // Whether what two tasks hold meets in some cell, where a test says which two holdings of one cell do.
 impl Run {
-    fn meets_run<F: Fn(Holding, Holding) -> bool>(&self, other: &Run, test: &F) -> bool
-        requires { F.IsAlwaysCallable test.now }
-        ensures { (q : Option Holding → Option Holding → Bool) → Compares (F.post test.now) q → result ≡ (nat_lt (max self.now.lo other.now.lo) (min self.now.hi other.now.hi) && q (Some self.now.holding) (Some other.now.holding)) }
+    // Whether a cell lies in both.
+    fn overlaps(&self, other: &Run) -> bool
+        ensures { result ≡ nat_lt (max self.now.lo other.now.lo) (min self.now.hi other.now.hi) }
     {
-        self.lo.max(other.lo) < self.hi.min(other.hi) && test(self.holding, other.holding)
+        self.lo.max(other.lo) < self.hi.min(other.hi)
     }
 
     fn meets<F: Fn(Holding, Holding) -> bool>(&self, other: &Runs, test: &F) -> bool
         requires { F.IsAlwaysCallable test.now }
         ensures { (q : Option Holding → Option Holding → Bool) → Compares (F.post test.now) q → result ≡ not (every self.now.hi (λ c. not (within self.now.lo self.now.hi c) || not (q (Some self.now.holding) (held other.now c)))) }
     {
-        other.as_slice().iter().any(|run| self.meets_run(run, test))
+        other.as_slice().iter().any(|run| self.overlaps(run) && test(self.holding, run.holding))
     }
 }
 

@@ -14,6 +14,7 @@ impl Table {
         if list.len() < MOST_TASKS {
             return Err(Refusal::ShortList);
         }
+        // Counted by hand: the count is the answer too, and after a zip over `iter_mut` a proof knows nothing of the places.
         let mut n = 0;
         for t in 0..self.len() {
             if self.may_start(t).is_ok() {

@@ -1,7 +1,7 @@
-ghost use Rattle.std.specs.Prelude.{◌≡◌, ◌<◌, length};
+ghost use Rattle.std.specs.Prelude.{◌≡◌};
 ghost use Rattle.order.specs.Pairs.{stands_aside};
 ghost use Rattle.order.specs.Questions.{first_no, look, no_descendant_conflict, step};
-ghost use Rattle.order.specs.View.{answer_number, view};
+ghost use Rattle.order.specs.View.{Known, answer_number, view};
 
 use crate::refusal::Refusal;
 use crate::table::Table;
@@ -11,14 +11,14 @@ use kinds::deed::Deed;
 impl Table {
     // Whether u, if it is a descendant of t, does not hinder the step.
     fn stands_aside(&self, deed: Deed, t: u16, cell: u16, u: u16) -> bool
-        requires { (t < length self.now.tasks.items) × (u < length self.now.tasks.items) }
+        requires { Known self.now t × Known self.now u }
         ensures { result ≡ stands_aside (view self.now) deed t cell u }
     {
         !self.tasks[u as usize].clashes(deed, cell) || !self.is_ancestor(t, u)
     }
 
     pub(crate) fn no_descendant_conflict(&self, deed: Deed, t: u16, cell: u16) -> bool
-        requires { t < length self.now.tasks.items }
+        requires { Known self.now t }
         ensures { result ≡ no_descendant_conflict (view self.now) deed t cell }
     {
         (0..self.len()).all(|u| self.stands_aside(deed, t, cell, u))
@@ -28,13 +28,7 @@ impl Table {
     pub fn admit(&self, deed: Deed, t: u16, cell: u16) -> Result<(), Refusal>
         ensures { answer_number result ≡ first_no (view self.now) (step deed t cell) }
     {
-        if t >= self.len() {
-            return Err(Refusal::NoSuchTask);
-        }
-        let task = &self.tasks[t as usize];
-        if !task.is_running() {
-            return Err(Refusal::WrongState);
-        }
+        let task = self.running(t)?;
         if cell >= self.cells {
             return Err(Refusal::NoSuchCell);
         }

@@ -4,6 +4,7 @@ ghost use Rattle.order.specs.Records.{Sound};
 use crate::task::Task;
 
 // All tasks of a job, by their numbers, in memory that is reserved at the start.
+// An arena, since callers name a task by its number and no call may need memory.
 #[derive(Drop)]
 pub struct Table {
     pub(crate) cells: u16,

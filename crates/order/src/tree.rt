@@ -1,13 +1,13 @@
-ghost use Rattle.std.specs.Prelude.{◌≡◌, ◌<◌, length};
+ghost use Rattle.std.specs.Prelude.{◌≡◌};
 ghost use Rattle.order.specs.Records.{parent_at};
 ghost use Rattle.order.specs.Tasks.{ancestor, earlier};
-ghost use Rattle.order.specs.View.{view};
+ghost use Rattle.order.specs.View.{Known, view};
 
 use crate::table::Table;
 
 impl Table {
     fn parent(&self, t: u16) -> u16
-        requires { t < length self.now.tasks.items }
+        requires { Known self.now t }
         ensures { result ≡ parent_at self.now.tasks.items t }
     {
         self.tasks[t as usize].parent
@@ -15,7 +15,7 @@ impl Table {
 
     // Whether u is t's parent, or its parent's parent, and so on. A parent has a lower number than its children.
     pub(crate) fn is_ancestor(&self, u: u16, t: u16) -> bool
-        requires { (u < length self.now.tasks.items) × (t < length self.now.tasks.items) }
+        requires { Known self.now u × Known self.now t }
         ensures { result ≡ ancestor (view self.now) u t }
     {
         let mut b = t;
@@ -29,7 +29,7 @@ impl Table {
     // The higher number climbs, so the two meet at their nearest common ancestor, and the last to arrive there came from the lower branch:
     // u is earlier where that is u and t has climbed as well.
     pub(crate) fn is_earlier(&self, u: u16, t: u16) -> bool
-        requires { (u < length self.now.tasks.items) × (t < length self.now.tasks.items) }
+        requires { Known self.now u × Known self.now t }
         ensures { result ≡ earlier (view self.now) u t }
     {
         let mut a = u;

@@ -23,21 +23,21 @@ returns-in_err-known c =
 pub invariant_of-self : goal.invariant_of-self
 invariant_of-self c = record {
   room = c.args.self.now.room;
-  sound = sound_kept c.args.self.now.cells c.args.self.now.tasks.items c.args.self.now.sound c.args.t c.in_ok-known.ensures
+  sound = sound_kept c.args.self.now.cells c.args.self.now.tasks.items c.args.self.now.sound c.args.t c.in_ok-known.ensures.0
       c.index_mut.result.now c.index_mut.ensures.value c.turn.new.self c.in_err-turn.ensures.2;
 }
 
 pub returns-in_err-turn : goal.returns-in_err-turn
 returns-in_err-turn c =
     let p = err_from_is_err_and c.from_residual-in_err-turn.result c.from_residual-in_err-turn.ensures.1 in
-    refused_turn c.args.self.now.cells c.args.self.now.tasks.items c.args.self.now.sound c.args.t c.in_ok-known.ensures
+    refused_turn c.args.self.now.cells c.args.self.now.tasks.items c.args.self.now.sound c.args.t c.in_ok-known.ensures.0
     c.index_mut.result.now c.index_mut.ensures.value c.in_err-turn.field-0.0 c.turn.new.self c.in_err-turn.ensures
     c.from_residual-in_err-turn.result p.0 p.1 p.2
 
 pub tell_ancestors-requires : goal.tell_ancestors-requires
 tell_ancestors-requires c =
     let u =
-    finish_untold c.args.self.now.cells c.args.self.now.tasks.items c.args.self.now.sound c.args.t c.in_ok-known.ensures
+    finish_untold c.args.self.now.cells c.args.self.now.tasks.items c.args.self.now.sound c.args.t c.in_ok-known.ensures.0
     c.index_mut.result.now c.index_mut.ensures.value tt c.turn.new.self c.in_ok-turn.ensures in
     let e = sym c.deref_mut.ensures.value in
     record {
@@ -58,7 +58,7 @@ invariant_of-self-2 c = record {
       )
       )
       (
-      finish_sound c.args.self.now.cells c.args.self.now.tasks.items c.args.self.now.sound c.args.t c.in_ok-known.ensures
+      finish_sound c.args.self.now.cells c.args.self.now.tasks.items c.args.self.now.sound c.args.t c.in_ok-known.ensures.0
       c.index_mut.result.now c.index_mut.ensures.value tt c.turn.new.self c.in_ok-turn.ensures
       c.tell_ancestors.new.tasks (c.tell_ancestors.ensures.kept ∙ ap (map uncounted) c.deref_mut.ensures.value)
       c.tell_ancestors.ensures.counted
@@ -76,7 +76,7 @@ returns c =
     )
     )
     (
-    finish_told c.args.self.now.cells c.args.self.now.tasks.items c.args.self.now.sound c.args.t c.in_ok-known.ensures
+    finish_told c.args.self.now.cells c.args.self.now.tasks.items c.args.self.now.sound c.args.t c.in_ok-known.ensures.0
     c.index_mut.result.now c.index_mut.ensures.value tt c.turn.new.self c.in_ok-turn.ensures
     c.tell_ancestors.new.tasks (c.tell_ancestors.ensures.kept ∙ ap (map uncounted) c.deref_mut.ensures.value)
     c.tell_ancestors.ensures.counted

@@ -17,18 +17,17 @@ use Rattle.order.proofs.Creating.{
   commutative_read,
   covers_read,
 }
-use Rattle.order.proofs.Turning.{running_within}
 use Rattle.order.proofs.table.Table.may_create.Goals as goal
 
-pub returns-in_err-running : goal.returns-in_err-running
-returns-in_err-running c =
+pub returns-in_err-task : goal.returns-in_err-task
+returns-in_err-task c =
     let p = err_from_is_err_and c.from_residual.result c.from_residual.ensures.1 in
-    refused_runs c.args.self.now.cells (view c.args.self.now) c.args.parent c.args.accesses.now c.from_residual.result p.0 c.in_err-running.field-0.0 p.1 p.2
-    (parent_refused (view c.args.self.now) c.args.parent c.args.accesses.now c.in_err-running.field-0.0 c.in_err-running.ensures)
+    refused_runs c.args.self.now.cells (view c.args.self.now) c.args.parent c.args.accesses.now c.from_residual.result p.0 c.in_err-task.field-0.0 p.1 p.2
+    (parent_refused (view c.args.self.now) c.args.parent c.args.accesses.now c.in_err-task.field-0.0 c.in_err-task.ensures.number)
 
 pub returns-then-len-ge-MOST_TASKS : goal.returns-then-len-ge-MOST_TASKS
 returns-then-len-ge-MOST_TASKS c =
-    full (view c.args.self.now) c.args.parent c.args.accesses.now c.in_ok-running.ensures
+    full (view c.args.self.now) c.args.parent c.args.accesses.now c.in_ok-task.ensures.number
     (
     full_read c.args.self.now.cells c.args.self.now.tasks.items c.args.self.now.sound
     (let h = c.if-len-ge-MOST_TASKS.true in let e = c.len.ensures in let n = c.args.self.now.tasks.ok.0 in omega arith)
@@ -36,7 +35,7 @@ returns-then-len-ge-MOST_TASKS c =
 
 pub returns-then-accesses-gt-MOST_ACCESSES : goal.returns-then-accesses-gt-MOST_ACCESSES
 returns-then-accesses-gt-MOST_ACCESSES c =
-    many (view c.args.self.now) c.args.parent c.args.accesses.now c.in_ok-running.ensures
+    many (view c.args.self.now) c.args.parent c.args.accesses.now c.in_ok-task.ensures.number
     (
     room_read c.args.self.now.cells c.args.self.now.tasks.items c.args.self.now.sound
     (let h = c.if-len-ge-MOST_TASKS.false in let e = c.len.ensures in let n = c.args.self.now.tasks.ok.0 in omega arith)
@@ -45,7 +44,7 @@ returns-then-accesses-gt-MOST_ACCESSES c =
 
 pub returns-then-not-has_regions : goal.returns-then-not-has_regions
 returns-then-not-has_regions c =
-    bad_region (view c.args.self.now) c.args.parent c.args.accesses.now c.in_ok-running.ensures
+    bad_region (view c.args.self.now) c.args.parent c.args.accesses.now c.in_ok-task.ensures.number
     (
     room_read c.args.self.now.cells c.args.self.now.tasks.items c.args.self.now.sound
     (let h = c.if-len-ge-MOST_TASKS.false in let e = c.len.ensures in let n = c.args.self.now.tasks.ok.0 in omega arith)
@@ -54,22 +53,16 @@ returns-then-not-has_regions c =
 
 pub returns-then-not-kinds_known : goal.returns-then-not-kinds_known
 returns-then-not-kinds_known c =
-    unknown_kind (view c.args.self.now) c.args.parent c.args.accesses.now c.in_ok-running.ensures
+    unknown_kind (view c.args.self.now) c.args.parent c.args.accesses.now c.in_ok-task.ensures.number
     (
     room_read c.args.self.now.cells c.args.self.now.tasks.items c.args.self.now.sound
     (let h = c.if-len-ge-MOST_TASKS.false in let e = c.len.ensures in let n = c.args.self.now.tasks.ok.0 in omega arith)
     )
     (le-leb (length c.args.accesses.now) 8 c.if-accesses-gt-MOST_ACCESSES.false) (sym c.has_regions.ensures ∙ c.if-not-has_regions.false) (sym c.kinds_known.ensures ∙ c.if-not-kinds_known.true)
 
-pub index-requires : goal.index-requires
-index-requires c =
-    let h = running_within c.args.self.now.cells c.args.self.now.tasks.items c.args.self.now.sound c.args.parent c.in_ok-running.ensures in
-    let n = c.args.self.now.tasks.ok.0 in
-    omega arith
-
 pub returns-then-has_commutative : goal.returns-then-has_commutative
 returns-then-has_commutative c =
-    commutative_parent (view c.args.self.now) c.args.parent c.args.accesses.now c.in_ok-running.ensures
+    commutative_parent (view c.args.self.now) c.args.parent c.args.accesses.now c.in_ok-task.ensures.number
     (
     room_read c.args.self.now.cells c.args.self.now.tasks.items c.args.self.now.sound
     (let h = c.if-len-ge-MOST_TASKS.false in let e = c.len.ensures in let n = c.args.self.now.tasks.ok.0 in omega arith)
@@ -79,14 +72,14 @@ returns-then-has_commutative c =
     not-true _
     (
     sym
-    (commutative_read c.args.self.now.cells c.args.self.now.tasks.items c.args.self.now.sound c.args.parent c.in_ok-running.ensures c.index.result.now c.index.ensures c.has_commutative.result c.has_commutative.ensures)
+    (commutative_read c.args.self.now.cells c.args.self.now.tasks.items c.args.self.now.sound c.args.parent c.in_ok-task.ensures.number c.in_ok-task.task.now c.in_ok-task.ensures.stands c.has_commutative.result c.has_commutative.ensures)
     ∙ c.if-has_commutative.true
     )
     )
 
 pub returns-then-not-covers_all : goal.returns-then-not-covers_all
 returns-then-not-covers_all c =
-    not_covered (view c.args.self.now) c.args.parent c.args.accesses.now c.in_ok-running.ensures
+    not_covered (view c.args.self.now) c.args.parent c.args.accesses.now c.in_ok-task.ensures.number
     (
     room_read c.args.self.now.cells c.args.self.now.tasks.items c.args.self.now.sound
     (let h = c.if-len-ge-MOST_TASKS.false in let e = c.len.ensures in let n = c.args.self.now.tasks.ok.0 in omega arith)
@@ -96,14 +89,14 @@ returns-then-not-covers_all c =
     not-false _
     (
     sym
-    (commutative_read c.args.self.now.cells c.args.self.now.tasks.items c.args.self.now.sound c.args.parent c.in_ok-running.ensures c.index.result.now c.index.ensures c.has_commutative.result c.has_commutative.ensures)
+    (commutative_read c.args.self.now.cells c.args.self.now.tasks.items c.args.self.now.sound c.args.parent c.in_ok-task.ensures.number c.in_ok-task.task.now c.in_ok-task.ensures.stands c.has_commutative.result c.has_commutative.ensures)
     ∙ c.if-has_commutative.false
     )
     )
     (
     sym
     (
-    covers_read c.args.self.now.cells c.args.self.now.tasks.items c.args.self.now.sound c.args.parent c.in_ok-running.ensures c.index.result.now c.index.ensures c.args.accesses.now c.of_accesses-asked.result
+    covers_read c.args.self.now.cells c.args.self.now.tasks.items c.args.self.now.sound c.args.parent c.in_ok-task.ensures.number c.in_ok-task.task.now c.in_ok-task.ensures.stands c.args.accesses.now c.of_accesses-asked.result
     (c.of_accesses-asked.ensures.held, c.of_accesses-asked.ensures.reach (view c.args.self.now) (sym c.has_regions.ensures ∙ c.if-not-has_regions.false))
     c.covers_all.result c.covers_all.ensures
     )
@@ -112,7 +105,7 @@ returns-then-not-covers_all c =
 
 pub returns : goal.returns
 returns c = (
-  all_asked (view c.args.self.now) c.args.parent c.args.accesses.now c.in_ok-running.ensures
+  all_asked (view c.args.self.now) c.args.parent c.args.accesses.now c.in_ok-task.ensures.number
       (
       room_read c.args.self.now.cells c.args.self.now.tasks.items c.args.self.now.sound
       (let h = c.if-len-ge-MOST_TASKS.false in let e = c.len.ensures in let n = c.args.self.now.tasks.ok.0 in omega arith)
@@ -122,14 +115,14 @@ returns c = (
       not-false _
       (
       sym
-      (commutative_read c.args.self.now.cells c.args.self.now.tasks.items c.args.self.now.sound c.args.parent c.in_ok-running.ensures c.index.result.now c.index.ensures c.has_commutative.result c.has_commutative.ensures)
+      (commutative_read c.args.self.now.cells c.args.self.now.tasks.items c.args.self.now.sound c.args.parent c.in_ok-task.ensures.number c.in_ok-task.task.now c.in_ok-task.ensures.stands c.has_commutative.result c.has_commutative.ensures)
       ∙ c.if-has_commutative.false
       )
       )
       (
       sym
       (
-      covers_read c.args.self.now.cells c.args.self.now.tasks.items c.args.self.now.sound c.args.parent c.in_ok-running.ensures c.index.result.now c.index.ensures c.args.accesses.now c.of_accesses-asked.result
+      covers_read c.args.self.now.cells c.args.self.now.tasks.items c.args.self.now.sound c.args.parent c.in_ok-task.ensures.number c.in_ok-task.task.now c.in_ok-task.ensures.stands c.args.accesses.now c.of_accesses-asked.result
       (c.of_accesses-asked.ensures.held, c.of_accesses-asked.ensures.reach (view c.args.self.now) (sym c.has_regions.ensures ∙ c.if-not-has_regions.false))
       c.covers_all.result c.covers_all.ensures
       )

@@ -16,7 +16,7 @@ returns-in_err-running c =
           c.in_err-running.field-0.0 p.1 p.2
           (
           before_release (view c.args.self.now) c.args.t c.args.lo c.args.hi c.in_err-running.field-0.0
-          c.in_err-running.ensures
+          c.in_err-running.ensures.number
           );
       others = λ x d n. refl;
     }
@@ -25,7 +25,7 @@ pub index_mut-requires : goal.index_mut-requires
 index_mut-requires c =
     let h =
     running_within c.args.self.now.cells c.args.self.now.tasks.items c.args.self.now.sound c.args.t
-    c.in_ok-running.ensures in
+    c.in_ok-running.ensures.number in
     let n = c.args.self.now.tasks.ok.0 in
     omega arith
 
@@ -33,7 +33,7 @@ pub invariant_of-self : goal.invariant_of-self
 invariant_of-self c =
     let h =
     running_within c.args.self.now.cells c.args.self.now.tasks.items c.args.self.now.sound c.args.t
-    c.in_ok-running.ensures in
+    c.in_ok-running.ensures.number in
     let l = region_end (view c.args.self.now) c.args.lo c.args.hi (sym c.has_region.ensures ∙ c.if-not-has_region.false) in record {
       room = c.args.self.now.room;
       sound = sound_released c.args.self.now.cells c.args.self.now.tasks.items c.args.self.now.sound c.args.t h
@@ -51,12 +51,12 @@ pub returns : goal.returns
 returns c =
     let h =
     running_within c.args.self.now.cells c.args.self.now.tasks.items c.args.self.now.sound c.args.t
-    c.in_ok-running.ensures in
+    c.in_ok-running.ensures.number in
     let lies = sym c.has_region.ensures ∙ c.if-not-has_region.false in
     record {
       did =
           release_did c.args.self.now.cells c.args.self.now.tasks.items c.args.self.now.sound c.args.t h
-          c.index_mut.result.now c.index_mut.ensures.value c.args.lo c.args.hi c.in_ok-running.ensures lies
+          c.index_mut.result.now c.index_mut.ensures.value c.args.lo c.args.hi c.in_ok-running.ensures.number lies
           c.release.result c.release.new.self
           (
           c.release.ensures c.args.self.now.cells (region_end (view c.args.self.now) c.args.lo c.args.hi lies)

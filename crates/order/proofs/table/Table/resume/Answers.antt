@@ -21,23 +21,23 @@ returns-in_err-may_resume c =
     refused_did (view c.args.self.now) (resume c.args.t) c.from_residual-in_err-may_resume.result p.0
     c.in_err-may_resume.field-0.0 p.1 p.2
     (
-    resume_asks c.args.self.now.cells c.args.self.now.tasks.items c.args.self.now.sound c.args.t c.in_ok-known.ensures
-    c.index.result.now c.index.ensures _ c.in_err-may_resume.ensures
+    resume_asks c.args.self.now.cells c.args.self.now.tasks.items c.args.self.now.sound c.args.t c.in_ok-known.ensures.0
+    c.in_ok-known.field-0.now c.in_ok-known.ensures.1 _ c.in_err-may_resume.ensures
     )
 
 pub invariant_of-self : goal.invariant_of-self
 invariant_of-self c = record {
   room = c.args.self.now.room;
-  sound = sound_turned c.args.self.now.cells c.args.self.now.tasks.items c.args.self.now.sound c.args.t c.in_ok-known.ensures
+  sound = sound_turned c.args.self.now.cells c.args.self.now.tasks.items c.args.self.now.sound c.args.t c.in_ok-known.ensures.0
       c.index_mut.result.now c.index_mut.ensures.value Resume refl c.turn.result c.turn.new.self c.turn.ensures;
 }
 
 pub returns : goal.returns
 returns c =
-    resume_did c.args.self.now.cells c.args.self.now.tasks.items c.args.self.now.sound c.args.t c.in_ok-known.ensures
+    resume_did c.args.self.now.cells c.args.self.now.tasks.items c.args.self.now.sound c.args.t c.in_ok-known.ensures.0
     c.index_mut.result.now c.index_mut.ensures.value c.turn.result c.turn.new.self
     (
-    resume_asks c.args.self.now.cells c.args.self.now.tasks.items c.args.self.now.sound c.args.t c.in_ok-known.ensures
-    c.index.result.now c.index.ensures 0 c.in_ok-may_resume.ensures
+    resume_asks c.args.self.now.cells c.args.self.now.tasks.items c.args.self.now.sound c.args.t c.in_ok-known.ensures.0
+    c.in_ok-known.field-0.now c.in_ok-known.ensures.1 0 c.in_ok-may_resume.ensures
     )
     c.turn.ensures
