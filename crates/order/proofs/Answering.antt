@@ -1,6 +1,6 @@
 -- Questions asked one after the other: the first no is the answer.
 -- Assumes nothing.
-use Rattle.std.proofs.Common.{◌≡◌, ℕ, ◌<◌, ◌≤◌, Bool, true, false, ◌&&◌, ltb, leb, ◌⊎◌, List, [], ◌∷◌, ◌++◌, Ok, Err, Result, sym, refl, ap, ◌∙◌, inl, inr, arith, lit<, MatchResult}
+use Rattle.std.proofs.Common.{◌≡◌, ℕ, ◌<◌, ◌≤◌, Bool, true, false, ◌&&◌, ltb, leb, ◌⊎◌, List, [], ◌∷◌, ◌++◌, Ok, Err, Result, sym, refl, ap, ◌∙◌, subst, inl, inr, arith, lit<, MatchResult}
 use Rattle.std.proofs.lemmas.Bool.{and_from, and_parts, cases_Bool, leb-true, cond-true, cond-false}
 use Rattle.order.specs.declared.refusal.Refusal.{Refusal}
 use Rattle.order.specs.declared.refusal.Refusal.TheVariants.{
@@ -118,6 +118,9 @@ did w v k (Err why) e c = (go (cases_Bool (accepted w k)), e, c)
 pub refused_number : {U : Type 0} (r : Result U Refusal) (e why : Refusal) → r ≡ Err e → e ≡ why → answer_number r ≡ refusal_number why
 refused_number (Ok u) e why p q = let z : ◌≡◌ {A = ℕ} 0 1 = cc in absurd (omega arith)
 refused_number {U = U} (Err x) e why p q = ap (answer_number {U = U}) p ∙ ap refusal_number q
+
+pub err_is : {U : Type 0} (P : U → Type 0) (Q : Refusal → Type 0) (r : Result U Refusal) (e : Refusal) → r ≡ Err e → Q e → MatchResult r P Q
+err_is P Q r e p h = subst (λ x. MatchResult x P Q) (sym p) h
 
 -- a refused call whose number is known
 pub refused_did :

@@ -1,7 +1,6 @@
 -- One more run behind others, as a part of the last where it goes on with that.
 -- Assumes nothing.
-use Rattle.std.proofs.Common.{◌≡◌, ℕ, ◌+◌, ◌-◌, ◌<◌, ◌≤◌, Bool, true, false, cond, ◌&&◌, eqb, ltb, leb, ◌⊎◌, List, [], ◌∷◌, ◌++◌, length, get_or, take, set, Some, None, Option, sym, refl, ap, ◌∙◌, inl, inr, append_assoc, arith}
-use Rattle.std.proofs.lemmas.List.{take_more, take_more_set}
+use Rattle.std.proofs.Common.{◌≡◌, ℕ, ◌+◌, ◌<◌, ◌≤◌, Bool, true, false, cond, ◌&&◌, eqb, ltb, leb, ◌⊎◌, List, [], ◌∷◌, ◌++◌, length, Some, None, Option, sym, refl, ap, ◌∙◌, inl, inr, append_assoc, arith}
 use Rattle.std.proofs.lemmas.Bool.{and_parts, and_cases, and_from, or_left, or_right, cases_lt, eqb-true, eq-eqb, lt-ltb, leb-true, le-leb, not_from_false}
 use Rattle.std.proofs.lemmas.Bool.Decides.{nat_tests}
 use Rattle.kinds.specs.declared.holding.Holding.{Holding}
@@ -12,7 +11,7 @@ use Rattle.order.specs.Cutting.{part}
 use Rattle.order.specs.Sweeping.{goes_on, appended}
 use Rattle.kinds.proofs.Every.{clash}
 use Rattle.kinds.proofs.Combining.{same_holding}
-use Rattle.order.proofs.Stretched.{blank, first_run}
+use Rattle.order.proofs.Stretched.{first_run}
 
 -- only the last run matters
 appended_last : (xs : List Run) (r s : Run) → appended (xs ++ r ∷ []) s ≡ xs ++ appended (r ∷ []) s
@@ -20,45 +19,16 @@ appended_last [] r s = refl
 appended_last (x ∷ []) r s = refl
 appended_last (x ∷ y ∷ more) r s = ap (λ l. x ∷ l) (appended_last (y ∷ more) r s)
 
-last_of : (xs : List Run) (n : ℕ) → 0 < n → n ≤ length xs → take n xs ≡ take (n - 1) xs ++ get_or xs (n - 1) blank ∷ []
-last_of xs n a b =
-    let e : n ≡ n - 1 + 1 = omega arith in
-    ap (λ k. take k xs) e ∙ take_more xs (n - 1) blank (omega arith)
-
-last_set : (xs : List Run) (n : ℕ) (y : Run) → 0 < n → n ≤ length xs → take n (set xs (n - 1) y) ≡ take (n - 1) xs ++ y ∷ []
-last_set xs n y a b =
-    let e : n ≡ n - 1 + 1 = omega arith in
-    ap (λ k. take k (set xs (n - 1) y)) e ∙ take_more_set xs (n - 1) y (omega arith)
-
 -- the last run made longer
-pub lengthened :
-    (xs : List Run) (n : ℕ) (s : Run) →
-    0 < n →
-    n ≤ length xs →
-    goes_on (get_or xs (n - 1) blank) s ≡ true →
-    take n (set xs (n - 1) (part (get_or xs (n - 1) blank) (get_or xs (n - 1) blank).lo s.hi)) ≡ appended (take n xs) s
-lengthened xs n s a b e =
-    let r = get_or xs (n - 1) blank in
-    last_set xs n (part r r.lo s.hi) a b
-    ∙ sym
-    (
-    ap (λ l. appended l s) (last_of xs n a b)
-    ∙ (appended_last (take (n - 1) xs) r s ∙ ap (λ t. take (n - 1) xs ++ cond t (part r r.lo s.hi ∷ []) (r ∷ s ∷ [])) e)
-    )
+pub lengthened : (all xs : List Run) (r s : Run) → all ≡ xs ++ r ∷ [] → goes_on r s ≡ true → xs ++ part r r.lo s.hi ∷ [] ≡ appended all s
+lengthened all xs r s e g =
+    sym (ap (λ l. appended l s) e ∙ (appended_last xs r s ∙ ap (λ t. xs ++ cond t (part r r.lo s.hi ∷ []) (r ∷ s ∷ [])) g))
 
 -- a run that does not go on with the last
-pub put_behind : (xs : List Run) (n : ℕ) (s : Run) → 0 < n → n ≤ length xs → goes_on (get_or xs (n - 1) blank) s ≡ false → appended (take n xs) s ≡ take n xs ++ s ∷ []
-put_behind xs n s a b e =
-    let r = get_or xs (n - 1) blank in
-    ap (λ l. appended l s) (last_of xs n a b)
-    ∙ (appended_last (take (n - 1) xs) r s
-    ∙ (ap (λ t. take (n - 1) xs ++ cond t (part r r.lo s.hi ∷ []) (r ∷ s ∷ [])) e
-    ∙ (sym (append_assoc (take (n - 1) xs) (r ∷ []) (s ∷ [])) ∙ ap (λ l. l ++ s ∷ []) (sym (last_of xs n a b)))))
-
-pub put_first : (xs : List Run) (n : ℕ) (s : Run) → n ≤ 0 → appended (take n xs) s ≡ take n xs ++ s ∷ []
-put_first xs n s h =
-    let e : n ≡ 0 = omega arith in
-    ap (λ k. appended (take k xs) s) e ∙ ap (λ k. take k xs ++ s ∷ []) (sym e)
+pub put_behind : (all xs : List Run) (r s : Run) → all ≡ xs ++ r ∷ [] → goes_on r s ≡ false → (xs ++ r ∷ []) ++ s ∷ [] ≡ appended all s
+put_behind all xs r s e g =
+    append_assoc xs (r ∷ []) (s ∷ [])
+    ∙ sym (ap (λ l. appended l s) e ∙ (appended_last xs r s ∙ ap (λ t. xs ++ cond t (part r r.lo s.hi ∷ []) (r ∷ s ∷ [])) g))
 
 -- the first run keeps its beginning and its holding
 apart_appended : (r t : Run) (more : List Run) (s : Run) → apart_first r (appended (t ∷ more) s) ≡ apart r t

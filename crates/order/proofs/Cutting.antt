@@ -1,6 +1,6 @@
 -- Taking a region out of runs in ascending order: what is left holds the other cells as before, and its runs are longest stretches.
 -- Assumes nothing.
-use Rattle.std.proofs.Common.{◌≡◌, ℕ, ◌+◌, ◌<◌, ◌≤◌, min, max, true, false, cond, not, ◌&&◌, eqb, ltb, leb, ◌⊎◌, List, [], ◌∷◌, ◌++◌, length, get_or, take, drop, Some, None, Option, sym, refl, ap, ◌∙◌, inl, inr, append_assoc, arith, length-append, length-take}
+use Rattle.std.proofs.Common.{◌≡◌, ℕ, ◌+◌, ◌<◌, ◌≤◌, min, max, true, false, cond, not, ◌&&◌, eqb, ltb, leb, ◌⊎◌, List, [], ◌∷◌, ◌++◌, length, get_or, drop, Some, None, Option, sym, refl, ap, ◌∙◌, inl, inr, append_assoc, arith, length-append}
 use Rattle.std.proofs.lemmas.List.{at_drop_more}
 use Rattle.std.proofs.lemmas.Bool.{and_parts, and_from, or_cases, or_left, or_right, cases_lt, eqb-true, eq-eqb, ltb-true, lt-ltb, le-ltb, leb-true, leb-false, le-leb, lt-leb}
 use Rattle.std.proofs.lemmas.Bool.Decides.{nat_tests}
@@ -17,9 +17,6 @@ any_one r h = ap (λ b. cond b (r ∷ []) []) (lt-ltb r.lo r.hi h)
 
 pub any_none : (r : Run) → r.hi ≤ r.lo → if_any r ≡ []
 any_none r h = ap (λ b. cond b (r ∷ []) []) (le-ltb r.lo r.hi h)
-
-pub take_short : (n : ℕ) (xs : List Run) → length (take n xs) ≤ n
-take_short n xs = let e = length-take n xs in omega arith
 
 -- cases on whether a run has a cell
 by_any : (r : Run) (P : List Run → Type 0) → (r.lo < r.hi → P (r ∷ [])) → (r.hi ≤ r.lo → P []) → P (if_any r)

@@ -1,5 +1,5 @@
 -- What a task's runs hold of each cell.
-use Rattle.std.specs.Prelude.{◌≡◌, ℕ, Bool, true, false, not, List, take, Some, None, Option}
+use Rattle.std.specs.Prelude.{◌≡◌, ℕ, Bool, true, false, not, List, Some, None, Option}
 use Rattle.kinds.specs.declared.holding.Holding.{Holding}
 use Rattle.order.specs.declared.run.Run.{Run}
 use Rattle.order.specs.declared.runs.Runs.{Runs}
@@ -8,7 +8,7 @@ use Rattle.order.specs.Tasks.{every}
 
 -- the runs in use
 abbrev pub in_use : Runs → List Run
-in_use h = take h.len h.list
+in_use h = h.list.items
 
 -- what they hold of the cell c
 abbrev pub held : Runs → ℕ → Option Holding

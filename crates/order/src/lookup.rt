@@ -13,7 +13,7 @@ impl Runs {
     pub(crate) fn as_slice(&self) -> &[Run]
         ensures { result.now ≡ in_use self.now }
     {
-        &self.list[0..self.len]
+        self.list.as_slice()
     }
 
     // What the task holds of the cell.

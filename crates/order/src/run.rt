@@ -4,7 +4,7 @@ ghost use Rattle.kinds.specs.Kinds.{within};
 use kinds::holding::Holding;
 
 // A stretch of cells that a task holds with one kind and strength: from lo up to, not including, hi.
-#[derive(Clone, Copy)]
+#[derive(Clone, Copy, Debug, Default, PartialEq, Eq)]
 pub struct Run {
     pub lo: u16,
     pub hi: u16,

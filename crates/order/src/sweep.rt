@@ -77,18 +77,14 @@ impl Runs {
         requires room { length (in_use self.old) < 16 }
         ensures { in_use self.new ≡ appended (in_use self.old) run }
     {
-        if self.len > 0 {
-            let last = self.list[self.len - 1];
-            if last.goes_on(&run) {
-                self.list[self.len - 1] = Run {
-                    lo: last.lo,
-                    hi: run.hi,
-                    holding: last.holding,
-                };
-                return;
+        match self.list.pop() {
+            Some(last) if last.goes_on(&run) => self.list.push(Run { hi: run.hi, ..last }),
+            Some(last) => {
+                self.list.push(last);
+                self.list.push(run);
             }
+            None => self.list.push(run),
         }
-        let _ = self.push(run);
     }
 
     // What the accesses ask, cell by cell. Every stretch begins and ends at a bound, and eight accesses have sixteen.

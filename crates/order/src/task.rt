@@ -2,7 +2,7 @@ use crate::runs::Runs;
 use crate::state::State;
 
 // One task as the table keeps it; open counts its children that are not deeply complete.
-#[derive(Clone, Copy)]
+#[derive(Drop)]
 pub struct Task {
     pub(crate) parent: u16,
     pub(crate) waits: bool,

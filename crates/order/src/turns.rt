@@ -40,10 +40,7 @@ impl Task {
         if !self.runs.holds_region(lo, hi) {
             return Err(Refusal::NotHeld);
         }
-        let Some(rest) = self.runs.without(lo, hi) else {
-            return Err(Refusal::TooManyRuns);
-        };
-        self.runs = rest;
+        self.runs = self.runs.without(lo, hi)?;
         Ok(())
     }
 
