@@ -6,22 +6,6 @@ use order::table::Table;
 use std::alloc::{AllocError, Global};
 use std::test::Fail;
 
-const IN: u8 = 1;
-
-const OUT: u8 = 2;
-
-const INOUT: u8 = 3;
-
-const CONCURRENT: u8 = 4;
-
-const COMMUTATIVE: u8 = 5;
-
-const WEAKIN: u8 = 6;
-
-const WEAKOUT: u8 = 7;
-
-const WEAKINOUT: u8 = 8;
-
 fn access(lo: u16, hi: u16, code: u8) -> Access {
     Access { lo, hi, code }
 }
@@ -30,16 +14,8 @@ fn table(heap: Global, cells: u16) -> Result<Table, AllocError> {
     Ok(Table::new(Room::reserve(heap)?, cells))
 }
 
-// The number of a refusal, 0 where the call was accepted.
-fn no(r: Result<(), Refusal>) -> u8 {
-    match r {
-        Ok(()) => 0,
-        Err(why) => why.number(),
-    }
-}
-
-// The same of a create; the new task's number is checked elsewhere.
-fn created(r: Result<u16, Refusal>) -> u8 {
+// The number of a refusal, 0 where the call was accepted, whatever it gave.
+fn no<T: Drop>(r: Result<T, Refusal>) -> u8 {
     match r {
         Ok(_) => 0,
         Err(why) => why.number(),
@@ -57,7 +33,7 @@ fn running(b: &mut Table, parent: u16, waits: bool, a: Access) -> u8 {
 #[test]
 fn sixteen_runs(rt: HostRuntime) -> Result<(), Fail> {
     let mut b = table(rt.alloc(), 101)?;
-    assert_eq!(rt; running(&mut b, 0, false, access(0, 101, INOUT)), 0);
+    assert_eq!(rt; running(&mut b, 0, false, access(0, 101, Access::INOUT)), 0);
     for k in 0..15u16 {
         let cell = 2 * k + 1;
         assert_eq!(rt; no(b.release(1, cell, cell + 1)), 0);
@@ -78,15 +54,15 @@ fn sixteen_runs(rt: HostRuntime) -> Result<(), Fail> {
 fn tasks_and_states(rt: HostRuntime) -> Result<(), Fail> {
     let mut b = table(rt.alloc(), 4)?;
     assert_eq!(rt; no(b.start(1)), 1);
-    assert_eq!(rt; created(b.create(1, false, &[])), 1);
+    assert_eq!(rt; no(b.create(1, false, &[])), 1);
     assert_eq!(rt; no(b.start(0)), 2);
     assert_eq!(rt; no(b.resume(0)), 2);
-    assert_eq!(rt; created(b.create(0, false, &[])), 0);
+    assert_eq!(rt; no(b.create(0, false, &[])), 0);
     assert_eq!(rt; no(b.finish(1)), 2);
     assert_eq!(rt; no(b.wait(1)), 2);
     assert_eq!(rt; no(b.release(1, 0, 1)), 2);
     assert_eq!(rt; no(b.admit(Deed::Reading, 1, 0)), 2);
-    assert_eq!(rt; created(b.create(1, false, &[])), 2);
+    assert_eq!(rt; no(b.create(1, false, &[])), 2);
     assert_eq!(rt; no(b.start(1)), 0);
     assert_eq!(rt; no(b.start(1)), 2);
     assert_eq!(rt; no(b.finish(1)), 0);
@@ -97,22 +73,22 @@ fn tasks_and_states(rt: HostRuntime) -> Result<(), Fail> {
 #[test]
 fn limits_of_a_create(rt: HostRuntime) -> Result<(), Fail> {
     let mut b = table(rt.alloc(), 4)?;
-    let a = access(0, 4, IN);
-    assert_eq!(rt; created(b.create(0, false, &[a, a, a, a, a, a, a, a])), 0);
+    let a = access(0, 4, Access::IN);
+    assert_eq!(rt; no(b.create(0, false, &[a, a, a, a, a, a, a, a])), 0);
+    assert_eq!(rt; no(b.create(0, false, &[a, a, a, a, a, a, a, a, a])), 4);
+    assert_eq!(rt; no(b.create(0, false, &[access(2, 2, Access::IN)])), 5);
+    assert_eq!(rt; no(b.create(0, false, &[access(3, 5, Access::IN)])), 5);
     assert_eq!(rt;
-        created(b.create(0, false, &[a, a, a, a, a, a, a, a, a])),
-        4
-    );
-    assert_eq!(rt; created(b.create(0, false, &[access(2, 2, IN)])), 5);
-    assert_eq!(rt; created(b.create(0, false, &[access(3, 5, IN)])), 5);
-    assert_eq!(rt;
-        created(b.create(0, false, &[access(0, 4, 0), access(3, 5, IN)])),
+        no(b.create(0, false, &[access(0, 4, 0), access(3, 5, Access::IN)])),
         5,
         "regions first"
     );
-    assert_eq!(rt; created(b.create(0, false, &[access(0, 4, 0)])), 6);
-    assert_eq!(rt; created(b.create(0, false, &[access(0, 4, 9)])), 6);
-    assert_eq!(rt; created(b.create(0, false, &[access(0, 4, WEAKINOUT)])), 0);
+    assert_eq!(rt; no(b.create(0, false, &[access(0, 4, 0)])), 6);
+    assert_eq!(rt; no(b.create(0, false, &[access(0, 4, 9)])), 6);
+    assert_eq!(rt;
+        no(b.create(0, false, &[access(0, 4, Access::WEAK_INOUT)])),
+        0
+    );
     Ok(())
 }
 
@@ -120,9 +96,9 @@ fn limits_of_a_create(rt: HostRuntime) -> Result<(), Fail> {
 fn sixty_four_tasks(rt: HostRuntime) -> Result<(), Fail> {
     let mut b = table(rt.alloc(), 1)?;
     for _ in 1..64u16 {
-        assert_eq!(rt; created(b.create(0, false, &[])), 0);
+        assert_eq!(rt; no(b.create(0, false, &[])), 0);
     }
-    assert_eq!(rt; created(b.create(0, false, &[])), 3);
+    assert_eq!(rt; no(b.create(0, false, &[])), 3);
     assert_eq!(rt; no(b.start(63)), 0);
     assert_eq!(rt; no(b.start(64)), 1);
     Ok(())
@@ -131,23 +107,29 @@ fn sixty_four_tasks(rt: HostRuntime) -> Result<(), Fail> {
 #[test]
 fn parents(rt: HostRuntime) -> Result<(), Fail> {
     let mut b = table(rt.alloc(), 4)?;
-    assert_eq!(rt; running(&mut b, 0, false, access(0, 1, COMMUTATIVE)), 0);
-    assert_eq!(rt; created(b.create(1, false, &[])), 7);
+    assert_eq!(rt;
+        running(&mut b, 0, false, access(0, 1, Access::COMMUTATIVE)),
+        0
+    );
+    assert_eq!(rt; no(b.create(1, false, &[])), 7);
     assert_eq!(rt; no(b.release(1, 0, 1)), 0);
-    assert_eq!(rt; created(b.create(1, false, &[])), 0, "no longer held");
-    assert_eq!(rt; running(&mut b, 0, false, access(1, 3, IN)), 0);
-    assert_eq!(rt; created(b.create(3, false, &[access(1, 2, OUT)])), 8);
-    assert_eq!(rt; created(b.create(3, false, &[access(1, 4, IN)])), 8);
-    assert_eq!(rt; created(b.create(3, false, &[access(1, 3, WEAKIN)])), 0);
+    assert_eq!(rt; no(b.create(1, false, &[])), 0, "no longer held");
+    assert_eq!(rt; running(&mut b, 0, false, access(1, 3, Access::IN)), 0);
+    assert_eq!(rt; no(b.create(3, false, &[access(1, 2, Access::OUT)])), 8);
+    assert_eq!(rt; no(b.create(3, false, &[access(1, 4, Access::IN)])), 8);
+    assert_eq!(rt; no(b.create(3, false, &[access(1, 3, Access::WEAK_IN)])), 0);
     Ok(())
 }
 
 #[test]
 fn starts(rt: HostRuntime) -> Result<(), Fail> {
     let mut b = table(rt.alloc(), 4)?;
-    assert_eq!(rt; created(b.create(0, false, &[access(0, 2, WEAKOUT)])), 0);
-    assert_eq!(rt; created(b.create(0, false, &[access(1, 2, IN)])), 0);
-    assert_eq!(rt; created(b.create(0, false, &[access(2, 3, IN)])), 0);
+    assert_eq!(rt;
+        no(b.create(0, false, &[access(0, 2, Access::WEAK_OUT)])),
+        0
+    );
+    assert_eq!(rt; no(b.create(0, false, &[access(1, 2, Access::IN)])), 0);
+    assert_eq!(rt; no(b.create(0, false, &[access(2, 3, Access::IN)])), 0);
     assert_eq!(rt; no(b.start(2)), 9, "a weak holding counts, started or not");
     assert_eq!(rt; no(b.start(3)), 0);
     assert_eq!(rt; no(b.start(1)), 0);
@@ -161,11 +143,11 @@ fn starts(rt: HostRuntime) -> Result<(), Fail> {
 fn one_commutative_at_a_time(rt: HostRuntime) -> Result<(), Fail> {
     let mut b = table(rt.alloc(), 2)?;
     assert_eq!(rt;
-        created(b.create(0, false, &[access(0, 1, COMMUTATIVE)])),
+        no(b.create(0, false, &[access(0, 1, Access::COMMUTATIVE)])),
         0
     );
     assert_eq!(rt;
-        created(b.create(0, false, &[access(0, 1, COMMUTATIVE)])),
+        no(b.create(0, false, &[access(0, 1, Access::COMMUTATIVE)])),
         0
     );
     assert_eq!(rt; no(b.start(2)), 0);
@@ -181,7 +163,7 @@ fn one_commutative_at_a_time(rt: HostRuntime) -> Result<(), Fail> {
 #[test]
 fn waits_and_releases(rt: HostRuntime) -> Result<(), Fail> {
     let mut b = table(rt.alloc(), 4)?;
-    assert_eq!(rt; created(b.create(0, false, &[access(0, 2, INOUT)])), 0);
+    assert_eq!(rt; no(b.create(0, false, &[access(0, 2, Access::INOUT)])), 0);
     assert_eq!(rt; no(b.wait(0)), 0);
     assert_eq!(rt; no(b.resume(0)), 11);
     assert_eq!(rt; no(b.start(1)), 0);
@@ -201,21 +183,27 @@ fn steps(rt: HostRuntime) -> Result<(), Fail> {
     let mut b = table(rt.alloc(), 4)?;
     assert_eq!(rt; no(b.admit(Deed::Reading, 0, 4)), 14);
     assert_eq!(rt; no(b.admit(Deed::Reading, 0, 3)), 0);
-    assert_eq!(rt; running(&mut b, 0, false, access(0, 1, OUT)), 0);
+    assert_eq!(rt; running(&mut b, 0, false, access(0, 1, Access::OUT)), 0);
     assert_eq!(rt; no(b.admit(Deed::Reading, 1, 0)), 15);
     assert_eq!(rt; no(b.admit(Deed::Updating, 1, 0)), 15);
     assert_eq!(rt; no(b.admit(Deed::Writing, 1, 0)), 0);
-    assert_eq!(rt; running(&mut b, 0, false, access(1, 2, WEAKINOUT)), 0);
+    assert_eq!(rt;
+        running(&mut b, 0, false, access(1, 2, Access::WEAK_INOUT)),
+        0
+    );
     assert_eq!(rt; no(b.admit(Deed::Reading, 2, 1)), 15, "weakly held");
     assert_eq!(rt;
         no(b.admit(Deed::Writing, 0, 1)),
         16,
         "a weak child bars its parent"
     );
-    assert_eq!(rt; created(b.create(0, false, &[access(2, 3, CONCURRENT)])), 0);
+    assert_eq!(rt;
+        no(b.create(0, false, &[access(2, 3, Access::CONCURRENT)])),
+        0
+    );
     assert_eq!(rt; no(b.admit(Deed::Updating, 0, 2)), 0);
     assert_eq!(rt; no(b.admit(Deed::Reading, 0, 2)), 16);
-    assert_eq!(rt; created(b.create(0, false, &[access(3, 4, IN)])), 0);
+    assert_eq!(rt; no(b.create(0, false, &[access(3, 4, Access::IN)])), 0);
     assert_eq!(rt; no(b.admit(Deed::Reading, 0, 3)), 0);
     assert_eq!(rt; no(b.admit(Deed::Updating, 0, 3)), 16);
     Ok(())
@@ -224,12 +212,15 @@ fn steps(rt: HostRuntime) -> Result<(), Fail> {
 #[test]
 fn not_by_number(rt: HostRuntime) -> Result<(), Fail> {
     let mut b = table(rt.alloc(), 1)?;
-    assert_eq!(rt; created(b.create(0, false, &[access(0, 1, WEAKINOUT)])), 0);
-    assert_eq!(rt; created(b.create(0, false, &[access(0, 1, IN)])), 0);
-    assert_eq!(rt; created(b.create(0, false, &[])), 0);
-    assert_eq!(rt; created(b.create(0, false, &[])), 0);
+    assert_eq!(rt;
+        no(b.create(0, false, &[access(0, 1, Access::WEAK_INOUT)])),
+        0
+    );
+    assert_eq!(rt; no(b.create(0, false, &[access(0, 1, Access::IN)])), 0);
+    assert_eq!(rt; no(b.create(0, false, &[])), 0);
+    assert_eq!(rt; no(b.create(0, false, &[])), 0);
     assert_eq!(rt; no(b.start(1)), 0);
-    assert_eq!(rt; created(b.create(1, false, &[access(0, 1, OUT)])), 0);
+    assert_eq!(rt; no(b.create(1, false, &[access(0, 1, Access::OUT)])), 0);
     assert_eq!(rt; no(b.finish(1)), 0);
     assert_eq!(rt;
         no(b.start(2)),
@@ -246,9 +237,12 @@ fn not_by_number(rt: HostRuntime) -> Result<(), Fail> {
 fn nested_deep(rt: HostRuntime) -> Result<(), Fail> {
     let mut b = table(rt.alloc(), 1)?;
     for parent in 0..62u16 {
-        assert_eq!(rt; running(&mut b, parent, true, access(0, 1, WEAKINOUT)), 0);
+        assert_eq!(rt;
+            running(&mut b, parent, true, access(0, 1, Access::WEAK_INOUT)),
+            0
+        );
     }
-    assert_eq!(rt; created(b.create(0, false, &[access(0, 1, IN)])), 0);
+    assert_eq!(rt; no(b.create(0, false, &[access(0, 1, Access::IN)])), 0);
     for t in 1..62u16 {
         assert_eq!(rt; no(b.finish(t)), 0);
     }
@@ -262,9 +256,12 @@ fn nested_deep(rt: HostRuntime) -> Result<(), Fail> {
 fn sixty_three_deep(rt: HostRuntime) -> Result<(), Fail> {
     let mut b = table(rt.alloc(), 1)?;
     for parent in 0..63u16 {
-        assert_eq!(rt; running(&mut b, parent, false, access(0, 1, WEAKINOUT)), 0);
+        assert_eq!(rt;
+            running(&mut b, parent, false, access(0, 1, Access::WEAK_INOUT)),
+            0
+        );
     }
-    assert_eq!(rt; created(b.create(63, false, &[access(0, 1, INOUT)])), 3);
+    assert_eq!(rt; no(b.create(63, false, &[access(0, 1, Access::INOUT)])), 3);
     assert_eq!(rt; no(b.admit(Deed::Reading, 0, 0)), 16);
     for t in 1..64u16 {
         assert_eq!(rt; no(b.finish(t)), 0);
@@ -276,9 +273,9 @@ fn sixty_three_deep(rt: HostRuntime) -> Result<(), Fail> {
 #[test]
 fn ready_lists(rt: HostRuntime) -> Result<(), Fail> {
     let mut b = table(rt.alloc(), 2)?;
-    assert_eq!(rt; created(b.create(0, false, &[access(0, 1, INOUT)])), 0);
-    assert_eq!(rt; created(b.create(0, false, &[access(0, 1, IN)])), 0);
-    assert_eq!(rt; created(b.create(0, false, &[access(1, 2, IN)])), 0);
+    assert_eq!(rt; no(b.create(0, false, &[access(0, 1, Access::INOUT)])), 0);
+    assert_eq!(rt; no(b.create(0, false, &[access(0, 1, Access::IN)])), 0);
+    assert_eq!(rt; no(b.create(0, false, &[access(1, 2, Access::IN)])), 0);
     let mut short = [7u16; 63];
     match b.ready(&mut short) {
         Ok(_) => return Err(Fail::new("a short list")),
