@@ -47,7 +47,7 @@ returns-then-not-has_count g c =
     record {
       read =
           miscounted _ _ _ _ _ c.in_ok-front.ensures _ _ c.in_ok-letter.ensures _ c.in_ok-numbers.ensures.read
-          (eqb-false _ _ (sym (counted_same false _ _ _ _ _ c.deref.ensures.value refl c.if-not-has_count.ensures)));
+          (eqb-false _ _ (sym (counted_same false _ _ _ _ _ c.deref.ensures.value c.WIDTH.ensures c.if-not-has_count.ensures)));
       wanting = tt;
     }
 
@@ -56,7 +56,7 @@ returns g c =
     record {
       read =
           judged g.E.Element.numbers g.E.Element.WIDTH g.E.Element.made _ _ c.in_ok-front.ensures _ _ c.in_ok-letter.ensures _ c.in_ok-numbers.ensures.read
-          (eqb-true _ _ (sym (counted_same true _ _ _ _ _ c.deref.ensures.value refl c.if-not-has_count.ensures)))
+          (eqb-true _ _ (sym (counted_same true _ _ _ _ _ c.deref.ensures.value c.WIDTH.ensures c.if-not-has_count.ensures)))
           _ c.deref-2.ensures.value c.written.result c.written.ensures;
       wanting =
           wanting_in c.written.result (Lettered c.args.line.now)
