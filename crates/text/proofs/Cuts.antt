@@ -1,17 +1,22 @@
 -- Steps of a search for a byte, and what a cut at its place leaves.
-use Rattle.std.proofs.Common.{◌≡◌, ℕ, zero, suc, ◌+◌, ◌<◌, ◌≤◌, Bool, true, false, cond, eqb, List, [], ◌∷◌, ◌++◌, length, get_or, take, drop, sym, refl, ap, ◌∙◌, subst, add-one, arith, drop-cons, eq-eqb, ne_eqb, eqb-true}
+use Rattle.std.proofs.Common.{◌≡◌, ℕ, zero, suc, ◌+◌, ◌<◌, ◌≤◌, Bool, true, false, cond, eqb, List, [], ◌∷◌, ◌++◌, length, get_or, take, drop, position, not, ltb, Some, None, Option, sym, refl, ap, ◌∙◌, subst, arith, eqb-true}
+use Rattle.std.specs.Prelude.{unwrap_or}
+use Rattle.std.specs.List.{position_or_len}
+use Rattle.std.proofs.lemmas.List.Sums.{prefix_len-le-length}
+use Rattle.std.proofs.Math.Numerals.{one-add}
+use Rattle.std.proofs.lemmas.List.Recursion.{is_position_or_len}
 use borrow.Author.Tests.{eqb-false}
 use Rattle.std.proofs.lemmas.List.{take-append-drop, take_all, drop_all}
 use Rattle.text.specs.Lines.{up_to, line_of, after_line, Cut}
 
-step : (b : ℕ) (s : List ℕ) (i : ℕ) → i < length s → up_to b (drop i s) ≡ cond (eqb (get_or s i 0) b) 0 (suc (up_to b (drop (i + 1) s)))
-step b s i h = rw (add-one, drop-cons s i 0)
+place_or : (k n : ℕ) → k ≤ n → unwrap_or (cond (ltb k n) (Some k) None) n ≡ k
+place_or k n within = grind arith
 
-pub up_to_at : (b : ℕ) (s : List ℕ) (i : ℕ) → i < length s → get_or s i 0 ≡ b → up_to b (drop i s) ≡ 0
-up_to_at b s i h e = step b s i h ∙ ap (λ t. cond t 0 (suc (up_to b (drop (i + 1) s)))) (eq-eqb _ _ e)
-
-pub up_to_on : (b : ℕ) (s : List ℕ) (i : ℕ) → i < length s → (get_or s i 0 ≡ b → ⊥) → up_to b (drop i s) ≡ suc (up_to b (drop (i + 1) s))
-up_to_on b s i h e = step b s i h ∙ ap (λ t. cond t 0 (suc (up_to b (drop (i + 1) s)))) (ne_eqb _ _ e)
+pub up_to_found : (b : ℕ) (bs : List ℕ) (r : Option ℕ) (n : ℕ) → r ≡ position (λ x. eqb x b) bs → n ≡ unwrap_or r (length bs) → n ≡ up_to b bs
+up_to_found b bs r n found e =
+    let place : up_to b bs ≡ position_or_len (λ x. eqb x b) bs = is_position_or_len (up_to b) (λ x. eqb x b) refl (λ x xs. rw one-add refl) bs in
+    let within = prefix_len-le-length (λ x. not (eqb x b)) bs in
+    e ∙ ap (λ o. unwrap_or o (length bs)) found ∙ place_or _ _ within ∙ sym place
 
 line_cons : (x : ℕ) (xs : List ℕ) (t : Bool) → eqb x 10 ≡ t → line_of (x ∷ xs) ≡ x ∷ cond t [] (line_of xs)
 line_cons x xs true e = rw e

@@ -18,9 +18,9 @@ unread_number OutOfRange = 25
 -- what a stop says, where it is not for want of memory
 abbrev pub Stopped : Stop → (Unread → Type 0) → Type 0
 Stopped (No why) P = P why
-Stopped Memory P = Unit {0}
+Stopped (Memory error) P = Unit {0}
 
 -- what holds where memory was wanting
 abbrev pub Wanting : Stop → Type 0 → Type 0
 Wanting (No why) P = Unit {0}
-Wanting Memory P = P
+Wanting (Memory error) P = P

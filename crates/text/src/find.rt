@@ -6,10 +6,5 @@ pub(crate) fn find(bytes: &[u8], b: u8) -> usize
     ensures value { result ≡ up_to b bytes.now }
     ensures within { result ≤ length bytes.now }
 {
-    for (i, x) in bytes.iter().enumerate() {
-        if *x == b {
-            return i;
-        }
-    }
-    bytes.len()
+    bytes.iter().position(|x| *x == b).unwrap_or(bytes.len())
 }

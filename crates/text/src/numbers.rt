@@ -18,9 +18,7 @@ pub fn read_numbers(heap: Global, bytes: &[u8]) -> Result<Vec<u64>, Stop>
     let mut numbers = Vec::new(heap);
     let mut rest = bytes;
     while !rest.is_empty() {
-        let Some((number, more)) = take_number(rest) else {
-            return Err(Stop::No(Unread::BadNumbers));
-        };
+        let (number, more) = take_number(rest).ok_or(Unread::BadNumbers)?;
         numbers.push(number)?;
         rest = more;
     }
@@ -31,10 +29,9 @@ pub fn read_numbers(heap: Global, bytes: &[u8]) -> Result<Vec<u64>, Stop>
 pub fn take_number(bytes: &[u8]) -> Option<(u64, &[u8])>
     ensures { MatchOption result ((n : ℕ) (rest : List ℕ) → Took bytes.now n rest → ⊥) (λ p. Took bytes.now p.0 p.1.now) }
 {
-    if bytes.is_empty() || bytes[0] != SPACE {
+    let [SPACE, word @ ..] = bytes else {
         return None;
-    }
-    let word = &bytes[1..];
+    };
     let (digits, rest) = word.split_at(find(word, SPACE));
     Some((number_of(digits)?, rest))
 }
@@ -43,18 +40,9 @@ pub fn take_number(bytes: &[u8]) -> Option<(u64, &[u8])>
 fn number_of(digits: &[u8]) -> Option<u64>
     ensures { DigitsRead digits.now result }
 {
-    if digits.is_empty() {
+    // `parse` reads these too.
+    if matches!(digits, [b'+', ..] | [b'0', _, ..]) {
         return None;
     }
-    if digits[0] == b'0' && digits.len() > 1 {
-        return None;
-    }
-    let mut number: u64 = 0;
-    for b in digits {
-        if *b < b'0' || *b > b'9' {
-            return None;
-        }
-        number = number.checked_mul(10)?.checked_add(u64::from(*b - b'0'))?;
-    }
-    Some(number)
+    str::from_utf8(digits).ok()?.parse().ok()
 }

@@ -1,4 +1,4 @@
-ghost use Rattle.std.specs.Prelude.{◌≡◌};
+ghost use Rattle.std.specs.Prelude.{◌≡◌, alloc_error};
 ghost use Rattle.text.specs.Unread.{unread_number};
 ghost use Rattle.text.specs.declared.unread.Stop.TheVariants.{No, Memory};
 
@@ -7,13 +7,13 @@ use std::alloc::{AllocError, AllocFailed};
 // Why a list of calls is not read further.
 #[derive(Clone, Copy, PartialEq, Eq, Debug)]
 pub enum Unread {
-    TooLong,
-    NoLineEnd,
-    BadHeader,
-    UnknownLetter,
-    BadNumbers,
-    WrongCount,
-    OutOfRange,
+    TooLong = 19,
+    NoLineEnd = 20,
+    BadHeader = 21,
+    UnknownLetter = 22,
+    BadNumbers = 23,
+    WrongCount = 24,
+    OutOfRange = 25,
 }
 
 impl Unread {
@@ -21,15 +21,7 @@ impl Unread {
     pub fn number(self) -> u8
         ensures { result ≡ unread_number self }
     {
-        match self {
-            Unread::TooLong => 19,
-            Unread::NoLineEnd => 20,
-            Unread::BadHeader => 21,
-            Unread::UnknownLetter => 22,
-            Unread::BadNumbers => 23,
-            Unread::WrongCount => 24,
-            Unread::OutOfRange => 25,
-        }
+        self as u8
     }
 }
 
@@ -37,7 +29,7 @@ impl Unread {
 #[derive(Clone, Copy, PartialEq, Eq, Debug)]
 pub enum Stop {
     No(Unread),
-    Memory,
+    Memory(AllocError),
 }
 
 impl From<Unread> for Stop {
@@ -49,10 +41,10 @@ impl From<Unread> for Stop {
 }
 
 impl From<AllocError> for Stop {
-    ghost from_gives = { λ _ r. r ≡ Memory };
+    ghost from_gives = { λ error r. r ≡ Memory error };
 
-    fn from(_: AllocError) -> Stop {
-        Stop::Memory
+    fn from(error: AllocError) -> Stop {
+        Stop::Memory(error)
     }
 }
 
@@ -60,9 +52,9 @@ impl<T> From<AllocFailed<T>> for Stop
 where
     T: Drop,
 {
-    ghost from_gives = { λ _ r. r ≡ Memory };
+    ghost from_gives = { λ _ r. r ≡ Memory alloc_error };
 
-    fn from(_: AllocFailed<T>) -> Stop {
-        Stop::Memory
+    fn from(failed: AllocFailed<T>) -> Stop {
+        Stop::Memory(failed.into())
     }
 }
