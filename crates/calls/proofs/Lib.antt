@@ -1,5 +1,3 @@
 pub mod Accesses
-pub mod Ends
-pub mod Makes
 pub mod Whole
 pub mod Headers

@@ -1,14 +1,17 @@
 -- How calls are written, and the questions that a line is asked.
 -- Assumes nothing.
-use Rattle.std.specs.Prelude.{◌≡◌, ℕ, ◌+◌, ◌*◌, ◌≤◌, true, cond, List, [], ◌∷◌, ◌++◌, length, drop, is_some, vec_items, Option, ◌≢◌, slice_index, slice_index_or}
+use Rattle.std.specs.Prelude.{◌≡◌, ℕ, ◌+◌, ◌*◌, ◌≤◌, true, cond, List, [], ◌∷◌, ◌++◌, length, drop, is_some, vec_items, Option, Result, MatchResult, ◌≢◌, slice_index}
+use Rattle.elements.specs.declared.element.Element as element
 use Rattle.kinds.specs.declared.access.Access.{Access}
 use Rattle.calls.specs.declared.letter.Letter.{Letter}
 use Rattle.calls.specs.declared.letter.Letter.TheVariants.{Create, Start, Finish, Wait, Resume, Release, Read, Write, Update, Look, Ready}
+use Rattle.text.specs.declared.unread.Stop.{Stop}
 use Rattle.text.specs.declared.unread.Unread.{Unread}
 use Rattle.text.specs.declared.unread.Unread.TheVariants.{TooLong, NoLineEnd, BadHeader, UnknownLetter, BadNumbers, WrongCount, OutOfRange}
 use Rattle.calls.specs.declared.written.Written.{Written}
 use Rattle.calls.specs.declared.written.Written.TheVariants as written
 use Rattle.text.specs.Form.{spaced, AllSmall, Writes}
+use Rattle.text.specs.Unread.{Stopped}
 
 -- the letters n, s, f, w, c, r, g, p, u, l and q
 abbrev pub byte_of : Letter → ℕ
@@ -23,6 +26,10 @@ byte_of Write = 112
 byte_of Update = 117
 byte_of Look = 108
 byte_of Ready = 113
+
+-- the letter is that of the character, or no letter has it
+abbrev pub LetterRead : ℕ → Result Letter Unread → Type 0
+LetterRead c r = MatchResult r (λ l. byte_of l ≡ c) (λ why. (why ≡ UnknownLetter) × ((l : Letter) → byte_of l ≢ c))
 
 abbrev pub letter_of : {E : Type 0} → Written E → Letter
 letter_of (written.Create p waits accesses) = Create
@@ -119,20 +126,25 @@ FirstNo width made line OutOfRange =
     (l : Letter) × (ns : List ℕ) × (line ≡ line_with l ns) × AllSmall ns × (length ns ≡ needed width l ns)
     × (Fits made l ns → ⊥)
 
--- the first three numbers are those of the access, and in range
-pub record FirstAccess (ns : List ℕ) (a : Access) : Type 0 where
-  pub lo_is : a.lo ≡ slice_index ns 0
-  pub hi_is : a.hi ≡ slice_index ns 1
-  pub code_is : a.code ≡ slice_index ns 2
-  pub lo_fits : slice_index_or ns 0 0 ≤ 65535
-  pub hi_fits : slice_index_or ns 1 0 ≤ 65535
-  pub code_fits : slice_index_or ns 2 0 ≤ 255
-
 -- the call has the letter and the numbers, and all are in range
 pub record Made {E : Type 0} (value_numbers : E → List ℕ) (made : List ℕ → Option E) (l : Letter) (ns : List ℕ) (w : Written E) : Type 0 where
   pub letter : letter_of w ≡ l
   pub numbers : numbers_of value_numbers w ≡ ns
   pub fits : Fits made l ns
+
+-- the question after the letter and the numbers that has the answer no: there are too few or too many, or one is out of range
+abbrev pub NumbersNo : {E : Type 0} → element.Ghosts E → Letter → List ℕ → Unread → Type 0
+NumbersNo e l ns TooLong = ⊥
+NumbersNo e l ns NoLineEnd = ⊥
+NumbersNo e l ns BadHeader = ⊥
+NumbersNo e l ns UnknownLetter = ⊥
+NumbersNo e l ns BadNumbers = ⊥
+NumbersNo e l ns WrongCount = length ns ≢ needed e.WIDTH l ns
+NumbersNo e l ns OutOfRange = (length ns ≡ needed e.WIDTH l ns) × (Fits e.made l ns → ⊥)
+
+-- what reading the numbers after a letter answers
+abbrev pub NumbersRead : {E : Type 0} → element.Ghosts E → Letter → List ℕ → Result (Written E) Stop → Type 0
+NumbersRead e l ns r = MatchResult r (λ w. (length ns ≡ needed e.WIDTH l ns) × Made e.numbers e.made l ns w) (λ s. Stopped s (NumbersNo e l ns))
 
 -- the line is the writing of the call, and passes every question
 pub record CallRead {E : Type 0} (value_numbers : E → List ℕ) (width : ℕ) (made : List ℕ → Option E) (line : List ℕ) (w : Written E) : Type 0 where
@@ -147,3 +159,7 @@ Lettered line = (l : Letter) × (tail : List ℕ) × (line ≡ byte_of l ∷ (ta
 pub record NoCall {E : Type 0} (value_numbers : E → List ℕ) (width : ℕ) (made : List ℕ → Option E) (line : List ℕ) (why : Unread) : Type 0 where
   pub first : FirstNo width made line why
   pub none : (w : Written E) → CallRead value_numbers width made line w → ⊥
+
+-- what reading a line answers
+abbrev pub LineRead : {E : Type 0} → element.Ghosts E → List ℕ → Result (Written E) Stop → Type 0
+LineRead e line r = MatchResult r (CallRead e.numbers e.WIDTH e.made line) (λ s. Stopped s (NoCall e.numbers e.WIDTH e.made line))

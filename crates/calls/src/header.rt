@@ -27,11 +27,7 @@ pub struct Header {
 pub fn read_header(line: &[u8]) -> Result<Header, Unread>
     ensures { MatchResult result (HeaderRead line.now) (NoHeader line.now) }
 {
-    let front = front(line)?;
-    match header_of(front) {
-        Some(header) => Ok(header),
-        None => Err(Unread::BadHeader),
-    }
+    header_of(front(line)?).ok_or(Unread::BadHeader)
 }
 
 fn header_of(front: &[u8]) -> Option<Header>
@@ -52,11 +48,7 @@ fn header_of(front: &[u8]) -> Option<Header>
 fn take_name(bytes: &[u8]) -> Option<(Held, &[u8])>
     ensures { MatchOption result ((k : Kind) (tail : List ℕ) → bytes.now ≢ name_of k ++ tail) (λ p. bytes.now ≡ name_of p.0 ++ p.1.now) }
 {
-    if let Some(tail) = bytes.strip_prefix(b"count") {
-        return Some((Held::Count, tail));
-    }
-    match bytes.strip_prefix(b"span") {
-        Some(tail) => Some((Held::Span, tail)),
-        None => None,
-    }
+    let count = bytes.strip_prefix(b"count");
+    let count = count.map(|tail| (Held::Count, tail));
+    count.or_else(|| Some((Held::Span, bytes.strip_prefix(b"span")?)))
 }

@@ -3,12 +3,12 @@ ghost use Rattle.calls.specs.Lent.{Lent};
 use crate::written::Written;
 use engine::call::Call;
 
-impl<E: Copy> Written<E> {
-    // The call for an engine, with the accesses lent to it.
-    pub fn call(&self) -> Call<'_, E>
-        ensures { Lent self.now result }
-    {
-        match self {
+// The call for an engine, with the accesses lent to it.
+impl<'a, E: Copy> From<&'a Written<E>> for Call<'a, E> {
+    ghost from_gives = { λ written call. Lent written.now call };
+
+    fn from(written: &'a Written<E>) -> Call<'a, E> {
+        match written {
             Written::Create {
                 parent,
                 waits,

@@ -1,9 +1,9 @@
-ghost use Rattle.std.specs.Prelude.{◌≡◌, MatchOption, ◌≢◌};
-ghost use Rattle.calls.specs.Calls.{byte_of};
-ghost use Rattle.calls.specs.declared.letter.Letter.{Letter as Named};
+ghost use Rattle.calls.specs.Calls.{LetterRead};
+
+use text::unread::Unread;
 
 // What a call's letter names.
-#[derive(Clone, Copy)]
+#[derive(Clone, Copy, PartialEq, Eq, Debug)]
 pub enum Letter {
     Create,
     Start,
@@ -18,24 +18,26 @@ pub enum Letter {
     Ready,
 }
 
-impl Letter {
-    // What the letter names, where it names something.
-    pub fn of(c: char) -> Option<Letter>
-        ensures { MatchOption result ((l : Named) → byte_of l ≢ c) (λ l. byte_of l ≡ c) }
-    {
+// What the letter names, where it names something.
+impl TryFrom<char> for Letter {
+    type Error = Unread;
+
+    ghost try_from_gives = { LetterRead };
+
+    fn try_from(c: char) -> Result<Letter, Unread> {
         match c {
-            'n' => Some(Letter::Create),
-            's' => Some(Letter::Start),
-            'f' => Some(Letter::Finish),
-            'w' => Some(Letter::Wait),
-            'c' => Some(Letter::Resume),
-            'r' => Some(Letter::Release),
-            'g' => Some(Letter::Read),
-            'p' => Some(Letter::Write),
-            'u' => Some(Letter::Update),
-            'l' => Some(Letter::Look),
-            'q' => Some(Letter::Ready),
-            _ => None,
+            'n' => Ok(Letter::Create),
+            's' => Ok(Letter::Start),
+            'f' => Ok(Letter::Finish),
+            'w' => Ok(Letter::Wait),
+            'c' => Ok(Letter::Resume),
+            'r' => Ok(Letter::Release),
+            'g' => Ok(Letter::Read),
+            'p' => Ok(Letter::Write),
+            'u' => Ok(Letter::Update),
+            'l' => Ok(Letter::Look),
+            'q' => Ok(Letter::Ready),
+            _ => Err(Unread::UnknownLetter),
         }
     }
 }

@@ -1,5 +1,5 @@
-ghost use Rattle.std.specs.Prelude.{◌≡◌, ◌*◌, ◌%◌, ◌<◌, ◌≤◌, length, if◌then◌else◌, MatchResult};
-ghost use Rattle.calls.specs.Calls.{access_numbers, AccessesFit, FirstAccess};
+ghost use Rattle.std.specs.Prelude.{◌≡◌, ◌*◌, ◌%◌, ◌<◌, ◌≤◌, length, if◌then◌else◌, MatchResult, Ok, Err};
+ghost use Rattle.calls.specs.Calls.{access_numbers, AccessesFit};
 ghost use Rattle.text.specs.Unread.{Stopped};
 ghost use Rattle.text.specs.declared.unread.Unread.TheVariants.{OutOfRange};
 
@@ -7,24 +7,13 @@ use kinds::access::Access;
 use std::alloc::Global;
 use text::unread::{Stop, Unread};
 
-// The number as a task, a cell or a bound.
-pub(crate) fn bound(n: u64) -> Result<u16, Unread>
-    ensures { MatchResult result (λ x. (x ≡ n) × (n ≤ 65535)) (λ why. (why ≡ OutOfRange) × (65535 < n)) }
+// The number in the type of its place: of a task, a cell, a bound or a code.
+pub(crate) fn fit<T: TryFrom<u64>>(n: u64) -> Result<T, Unread>
+where
+    T::Error: Drop,
+    ensures { MatchResult result (λ x. T.try_from_gives n (Ok x)) (λ why. (why ≡ OutOfRange) × ((e : T.Error) × T.try_from_gives n (Err e))) }
 {
-    if n > 65535 {
-        return Err(Unread::OutOfRange);
-    }
-    Ok(n as u16)
-}
-
-// The number as a code or a number of accesses.
-pub(crate) fn code(n: u64) -> Result<u8, Unread>
-    ensures { MatchResult result (λ x. (x ≡ n) × (n ≤ 255)) (λ why. (why ≡ OutOfRange) × (255 < n)) }
-{
-    if n > 255 {
-        return Err(Unread::OutOfRange);
-    }
-    Ok(n as u8)
+    T::try_from(n).map_err(|_| Unread::OutOfRange)
 }
 
 // The number as a flag.
@@ -44,22 +33,12 @@ pub(crate) fn accesses(heap: Global, numbers: &[u64]) -> Result<Vec<Access>, Sto
     ensures { MatchResult result (λ v. (access_numbers v.items ≡ numbers.now) × AccessesFit numbers.now × (3 * length v.items ≡ length numbers.now)) (λ s. Stopped s (λ why. (why ≡ OutOfRange) × (AccessesFit numbers.now → ⊥))) }
 {
     let mut accesses = Vec::new(heap);
-    let mut rest = numbers;
-    while rest.len() >= 3 {
-        accesses.push(first_access(rest)?)?;
-        rest = &rest[3..];
+    for &[lo, hi, code] in numbers.as_chunks::<3>().0 {
+        accesses.push(Access {
+            lo: fit(lo)?,
+            hi: fit(hi)?,
+            code: fit(code)?,
+        })?;
     }
     Ok(accesses)
-}
-
-// The first three numbers as an access.
-fn first_access(numbers: &[u64]) -> Result<Access, Unread>
-    requires { 3 ≤ length numbers.now }
-    ensures { MatchResult result (λ a. FirstAccess numbers.now a) (λ why. (why ≡ OutOfRange) × (AccessesFit numbers.now → ⊥)) }
-{
-    Ok(Access {
-        lo: bound(numbers[0])?,
-        hi: bound(numbers[1])?,
-        code: code(numbers[2])?,
-    })
 }

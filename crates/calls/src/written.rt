@@ -1,6 +1,6 @@
 use kinds::access::Access;
 
-// A call as a line writes it, with accesses of its own.
+// A call as a line writes it. It owns its accesses, where the engine's `Call`, alike in all else, borrows them and is `Copy`.
 #[derive(Drop)]
 pub enum Written<E> {
     Create {

@@ -1,10 +1,8 @@
-use Rattle.std.proofs.Common.{[], ◌∷◌, Some, None, refl}
-use Rattle.std.proofs.lemmas.Slice.Eq.{strip_suffix_is}
-use Rattle.calls.proofs.line.front.Goals as goal
+use Rattle.std.proofs.Common.{[], ◌∷◌}
 use Rattle.std.proofs.lemmas.Bool.Decides.{Decides-eqb}
+use Rattle.std.proofs.lemmas.Slice.Eq.{strip_suffix_is}
+use Rattle.text.proofs.Stops.{ok_for_some}
+use Rattle.calls.proofs.line.front.Goals as goal
 
-pub returns-in-Some : goal.returns-in-Some
-returns-in-Some c = strip_suffix_is Decides-eqb c.args.line.now (10 ∷ []) (Some c.in-Some.front) c.in-Some.ensures.cases
-
-pub returns-in-None : goal.returns-in-None
-returns-in-None c = (refl, strip_suffix_is Decides-eqb c.args.line.now (10 ∷ []) None c.in-None.ensures.cases)
+pub returns : goal.returns
+returns c = ok_for_some _ _ c.strip_suffix.result _ c.ok_or.result (strip_suffix_is Decides-eqb c.args.line.now (10 ∷ []) c.strip_suffix.result c.strip_suffix.ensures.cases) c.ok_or.ensures.value
