@@ -1,70 +1,86 @@
-ghost use Rattle.std.specs.Prelude.{◌≡◌, ◌∷◌, ◌++◌, is_ok, IfOk, if◌then◌else◌, string_bytes, decimal, OnOk};
+ghost use Rattle.std.specs.Prelude.{◌≡◌, ◌∷◌, ◌++◌, ℕ, List, is_ok, if◌then◌else◌, string_bytes, Some};
+ghost use Rattle.std.specs.Iterator.{AlwaysYields, IsFinite};
+ghost use Rattle.std.specs.Fmt.{WritesOnOk};
 ghost use Rattle.text.specs.Form.{spaced};
 ghost use Rattle.answers.specs.Writing.{Wrote, line_of, refusal_text, reply_text};
 
 use elements::element::Element;
 use engine::call::{Reply, Turn};
 use engine::refusal::Refusal;
-use std::alloc::{AllocError, Global};
+use std::alloc::AllocError;
+use std::fmt;
 use stores::fault::Fault;
 
-// A number after a space.
-fn push_number(text: &mut String, n: u64) -> Result<(), AllocError>
-    ensures { OnOk result (string_bytes text.new ≡ string_bytes text.old ++ (32 ∷ decimal n)) }
-{
-    write!(text, " {n}").or(Err(AllocError))
-}
-
 // Each number after a space.
-fn push_numbers(text: &mut String, numbers: &[u16]) -> Result<(), AllocError>
-    ensures { OnOk result (string_bytes text.new ≡ string_bytes text.old ++ spaced numbers.now) }
+fn write_spaced<W: fmt::Write, I: Iterator<Item = u64> + Drop>(
+    f: &mut fmt::Formatter<W>,
+    numbers: I,
+) -> fmt::Result
+    requires can { I.can_next numbers }
+    requires ends { IsFinite (I.remaining numbers) }
+    ensures { (ns : List ℕ) → AlwaysYields I.next_gives (λ n. n) numbers ns → WritesOnOk W.write_str_gives f.old result (spaced ns) f.new }
 {
     for n in numbers {
-        push_number(text, u64::from(*n))?;
+        write!(f, " {n}")?;
     }
     Ok(())
 }
 
-// Each number of a value after a space.
-fn push_value<E: Element>(text: &mut String, value: E) -> Result<(), AllocError>
-    ensures { OnOk result (string_bytes text.new ≡ string_bytes text.old ++ spaced (E.Element.numbers value)) }
-{
-    for i in 0..E::WIDTH {
-        push_number(text, value.number(i))?;
-    }
-    Ok(())
-}
+// A refusal: its number, and where the store refused also the cause, depth and cell of its fault.
+#[derive(Clone, Copy)]
+struct Refused(Refusal);
 
-fn refusal_text(heap: Global, why: Refusal) -> Result<String, AllocError>
-    ensures { IfOk result (λ s. string_bytes s ≡ refusal_text why) }
-{
-    let number = why.number();
-    match why {
-        Refusal::Rule(_) => format!(in heap; "no {number}"),
-        Refusal::Store(Fault { cause, depth, cell }) => {
-            let cause = cause.number();
-            format!(in heap; "no {number} {cause} {depth} {cell}")
+impl fmt::Display for Refused {
+    ghost output = { λ r. Some (refusal_text r.0) };
+
+    fn fmt<W: fmt::Write>(&self, f: &mut fmt::Formatter<W>) -> fmt::Result {
+        let number = self.0.number();
+        match self.0 {
+            Refusal::Rule(_) => write!(f, "no {number}"),
+            Refusal::Store(Fault { cause, depth, cell }) => {
+                let cause = cause.number();
+                write!(f, "no {number} {cause} {depth} {cell}")
+            }
         }
     }
 }
 
-fn reply_text<E: Element>(heap: Global, reply: &Reply<E>) -> Result<String, AllocError>
-    ensures { IfOk result (λ s. string_bytes s ≡ reply_text E.Element.numbers reply.now) }
-{
-    match reply {
-        Reply::Done => format!(in heap; "ok"),
-        Reply::Task(n) => format!(in heap; "task {n}"),
-        Reply::Value(value) => {
-            let mut text = String::from_str(heap, "value")?;
-            push_value(&mut text, *value)?;
-            Ok(text)
+// What an accepted call answers.
+#[derive(Clone, Copy)]
+struct Accepted<'a, E>(&'a Reply<E>);
+
+impl<E: Element> fmt::Display for Accepted<'_, E> {
+    ghost output = { λ r. Some (reply_text E.Element.numbers r.0.now) };
+
+    fn fmt<W: fmt::Write>(&self, f: &mut fmt::Formatter<W>) -> fmt::Result {
+        match self.0 {
+            Reply::Done => write!(f, "ok"),
+            Reply::Task(n) => write!(f, "task {n}"),
+            Reply::Value(value) => {
+                write!(f, "value")?;
+                write_spaced(f, (0..E::WIDTH).map(|i| value.number(i)))
+            }
+            Reply::Ready { count, list } => {
+                write!(f, "ready")?;
+                write_spaced(f, list.iter().take(*count).map(|n| u64::from(*n)))
+            }
         }
-        Reply::Ready { count, list } => {
-            let shown = (*count).min(list.len());
-            let mut text = String::from_str(heap, "ready")?;
-            push_numbers(&mut text, &list[0..shown])?;
-            Ok(text)
+    }
+}
+
+// The line of an answer, with its end.
+#[derive(Clone, Copy)]
+struct Line<'a, E>(&'a Result<Reply<E>, Refusal>);
+
+impl<E: Element> fmt::Display for Line<'_, E> {
+    ghost output = { λ l. Some (line_of E.Element.numbers l.0.now) };
+
+    fn fmt<W: fmt::Write>(&self, f: &mut fmt::Formatter<W>) -> fmt::Result {
+        match self.0 {
+            Ok(reply) => write!(f, "{}", Accepted(reply))?,
+            Err(why) => write!(f, "{}", Refused(*why))?,
         }
+        f.write_char('\n')
     }
 }
 
@@ -75,12 +91,7 @@ pub fn write_answer<E: Element>(
 ) -> Result<(), AllocError>
     ensures { string_bytes out.new ≡ (if is_ok result then string_bytes out.old ++ line_of E.Element.numbers answer.now else string_bytes out.old) }
 {
-    let heap = *out.allocator();
-    let mut line = match answer {
-        Ok(reply) => reply_text(heap, reply)?,
-        Err(why) => refusal_text(heap, *why)?,
-    };
-    line.push('\n')?;
+    let line = Line(answer).to_string(*out.allocator())?;
     out.push_str(line.as_str())
 }
 

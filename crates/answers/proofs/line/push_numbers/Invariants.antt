@@ -1,6 +1,0 @@
-use Rattle.std.proofs.Common.{◌≡◌, ◌++◌, take, string_bytes}
-use Rattle.text.specs.Form.{spaced}
-use Rattle.answers.proofs.line.push_numbers.Given as goal
-
-abbrev pub invariant-loop-n : goal.invariant-loop-n
-invariant-loop-n l = string_bytes l.text ≡ string_bytes l.initial.text ++ spaced (take l.n-index l.numbers)

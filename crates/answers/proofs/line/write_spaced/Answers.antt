@@ -1,0 +1,16 @@
+use Rattle.std.proofs.Common.{rules, sym, ap, ◌∙◌}
+use Rattle.std.proofs.lemmas.Iterator.Consumers.{YieldsList-at, YieldsList-end}
+use Rattle.std.proofs.lemmas.List.{map-id}
+use Rattle.text.specs.Form.{spaced}
+use Rattle.std.proofs.Output.{has_written_append, has_written_of_eq}
+use Rattle.answers.proofs.Spaced.{spaced_push}
+use Rattle.answers.proofs.line.write_spaced.Goals as goal
+
+pub loop-n-preserved : goal.loop-n-preserved
+loop-n-preserved g c = λ plain.
+    has_written_of_eq _ _ _ _ _ (spaced_push c.loop-n.yielded c.in-Some.n) (has_written_append _ _ _ _ _ _ (c.loop-n.invariant plain) (search rules))
+
+pub returns : goal.returns
+returns g c =
+    λ ns gives plain ok.
+    has_written_of_eq _ _ _ _ _ (ap spaced (sym (map-id _) ∙ (YieldsList-end {steps = g.I.Iterator.next_gives} (YieldsList-at c.into_iter-n-iterator.ensures.into_iter_gives (record { runs = gives })) c.loop-n.yielded _ c.loop-n.yielded_by _ _ c.in-None.is c.next.ensures.steps).0)) (c.loop-n.invariant plain)
