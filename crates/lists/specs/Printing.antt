@@ -1,6 +1,7 @@
 -- What a text prints that is given as a list of calls.
 -- Assumes nothing.
 use Rattle.std.specs.Prelude.{◌≡◌, ℕ, ◌<◌, ◌≤◌, List, [], ◌∷◌, ◌++◌, map, length, Some, None, codes, Option}
+use Rattle.elements.specs.declared.element.Element as element
 use Rattle.elements.specs.Element.{count_of, count_made, count_updated, span_made, span_rest, span_updated}
 use Rattle.engine.specs.declared.call.Turn.{Turn}
 use Rattle.calls.specs.declared.header.Header.{Header}
@@ -54,6 +55,17 @@ pub record Body {V : Type 0} (numbers : V → List ℕ) (width : ℕ) (made : Li
   pub form : HasForm numbers width made text calls bad
   pub run : Answers numbers rest updated n calls answers
   pub whole : out ≡ answers ++ ending bad
+
+-- the same three, where the element says how values are written, rest and are updated
+module _ {V : Type 0} (e : element.Ghosts V) where
+  abbrev pub TakenBy : ℕ → List (Turn V) → List (Turn V) → List ℕ → Type 0
+  TakenBy n before turns out = Taken e.numbers e.rest e.updated n before turns out
+
+  abbrev pub AnswersBy : ℕ → List (Written V) → List ℕ → Type 0
+  AnswersBy n calls out = Answers e.numbers e.rest e.updated n calls out
+
+  abbrev pub BodyBy : ℕ → List ℕ → List ℕ → Type 0
+  BodyBy n text out = Body e.numbers e.WIDTH e.made e.rest e.updated n text out
 
 abbrev pub BodyOf : Header → List ℕ → List ℕ → Type 0
 BodyOf h text out = by h.held

@@ -1,6 +1,7 @@
 -- The run of a list of calls on the pile that lists run on.
 -- Assumes nothing.
 use Rattle.std.specs.Prelude.{◌≡◌, ℕ, List, [], ◌∷◌, replicate, None}
+use Rattle.elements.specs.declared.element.Element as element
 use Rattle.order.specs.Tasks.{World}
 use Rattle.stores.specs.Fault.{Verdict}
 use Rattle.writes.specs.Pile.{Gauge, pile_verdict, after_write}
@@ -46,3 +47,7 @@ pub record RanPiled {V : Type 0} (rest : V) (updated : V → V → V) (n : ℕ) 
   pub pile : Pile V
   pub ran : RanNew values_of verdict_of gauged rest updated (new_pile rest n) turns tasks pile
   pub promised : Promised values_of verdict_of gauged rest updated (new_pile rest n) turns tasks pile
+
+-- the same, where the element says how a cell rests and is updated
+abbrev pub RanPiledBy : {V : Type 0} → element.Ghosts V → ℕ → List (Turn V) → Type 0
+RanPiledBy e n turns = RanPiled e.rest e.updated n turns

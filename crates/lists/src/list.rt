@@ -1,5 +1,5 @@
-ghost use Rattle.std.specs.Prelude.{◌≡◌, ◌≤◌, ◌++◌, length, IfOk, vec_len, string_bytes, OnOk};
-ghost use Rattle.lists.specs.Printing.{Answers, Body, BodyOf, Printed, Taken, bad_line, ending};
+ghost use Rattle.std.specs.Prelude.{◌≤◌, length, IfOk, string_bytes};
+ghost use Rattle.lists.specs.Printing.{AnswersBy, BodyBy, BodyOf, Printed, TakenBy};
 
 use crate::listing::BadLine;
 use crate::piled::run_piled;
@@ -29,12 +29,16 @@ pub fn run_list(heap: Global, text: &[u8]) -> Result<String, AllocError>
     ensures { IfOk result (λ out. Printed text.now (string_bytes out)) }
 {
     if text.len() > MOST_BYTES {
-        return bad_text(heap, 0, Unread::TooLong);
+        return BadLine {
+            line: 0,
+            why: Unread::TooLong,
+        }
+        .to_string(heap);
     }
     let (line, rest) = Reader::new(text).take_line();
     match read_header(line.bytes) {
         Ok(header) => run_body(heap, header, rest),
-        Err(why) => bad_text(heap, 1, why),
+        Err(why) => BadLine { line: 1, why }.to_string(heap),
     }
 }
 
@@ -52,25 +56,14 @@ fn run_body(heap: Global, header: Header, body: Reader<'_>) -> Result<String, Al
 // The same, where cells hold elements of this type.
 fn run_calls<E: Element>(heap: Global, cells: u16, body: Reader<'_>) -> Result<String, AllocError>
     requires { length body.rest.now ≤ 32768 }
-    ensures { IfOk result (λ out. Body E.Element.numbers E.Element.WIDTH E.Element.made E.Element.rest E.Element.updated cells body.entry.rest.now (string_bytes out)) }
+    ensures { IfOk result (λ out. BodyBy E.Element cells body.entry.rest.now (string_bytes out)) }
 {
     let listing = read_calls::<E>(heap, body)?;
     let mut out = answer_calls(heap, cells, &listing.calls)?;
-    push_end(&mut out, listing.end)?;
-    Ok(out)
-}
-
-// Ends the output, with the line that is not read where there is one.
-fn push_end(out: &mut String, end: Option<BadLine>) -> Result<(), AllocError>
-    ensures { OnOk result (string_bytes out.new ≡ string_bytes out.old ++ ending end) }
-{
-    match end {
-        Some(bad) => {
-            let text = bad_text(*out.allocator(), bad.line, bad.why)?;
-            out.push_str(text.as_str())
-        }
-        None => Ok(()),
+    if let Some(bad) = listing.end {
+        write!(out, "{bad}")?;
     }
+    Ok(out)
 }
 
 // The lines of the calls' answers.
@@ -79,7 +72,7 @@ fn answer_calls<E: Element>(
     cells: u16,
     calls: &[Written<E>],
 ) -> Result<String, AllocError>
-    ensures { IfOk result (λ out. Answers E.Element.numbers E.Element.rest E.Element.updated cells calls.now (string_bytes out)) }
+    ensures { IfOk result (λ out. AnswersBy E.Element cells calls.now (string_bytes out)) }
 {
     let mut turns = turns_of(heap, calls)?;
     answer_turns(heap, cells, turns.as_mut_slice())
@@ -91,35 +84,17 @@ fn answer_turns<E: Element>(
     cells: u16,
     turns: &mut [Turn<E>],
 ) -> Result<String, AllocError>
-    ensures { IfOk result (λ out. Taken E.Element.numbers E.Element.rest E.Element.updated cells turns.old turns.new (string_bytes out)) }
+    ensures { IfOk result (λ out. TakenBy E.Element cells turns.old turns.new (string_bytes out)) }
 {
     let room = Room::reserve(heap)?;
-    let mut heads = vec![in heap; 0u16; cells as usize]?;
-    let mut records = unused_records(heap)?;
+    let unused = Record {
+        value: E::at_rest(),
+        next: 0,
+    };
+    let mut heads = vec![in heap; 0u16; usize::from(cells)]?;
+    let mut records = vec![in heap; unused; RECORDS]?;
     run_piled(room, heads.as_mut_slice(), records.as_mut_slice(), turns);
     let mut out = String::new(heap);
     write_answers(&mut out, turns)?;
     Ok(out)
-}
-
-// The records of a new chain store.
-fn unused_records<E: Element>(heap: Global) -> Result<Vec<Record<E>>, AllocError>
-    ensures { IfOk result (λ v. vec_len v ≡ 64) }
-{
-    let mut records = Vec::new(heap);
-    for _number in 0..RECORDS {
-        records.push(Record {
-            value: E::at_rest(),
-            next: 0,
-        })?;
-    }
-    Ok(records)
-}
-
-// The line that tells a line that is not read.
-fn bad_text(heap: Global, line: usize, why: Unread) -> Result<String, AllocError>
-    ensures { IfOk result (λ out. string_bytes out ≡ bad_line line why) }
-{
-    let number = why.number();
-    format!(in heap; "line {line} no {number}\n")
 }

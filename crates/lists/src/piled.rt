@@ -1,5 +1,5 @@
 ghost use Rattle.std.specs.Prelude.{◌≡◌, ◌≤◌, map, length};
-ghost use Rattle.lists.specs.Running.{RanPiled};
+ghost use Rattle.lists.specs.Running.{RanPiledBy};
 
 use elements::element::Element;
 use engine::call::Turn;
@@ -21,7 +21,7 @@ pub(crate) fn run_piled<E: Element>(
     turns: &mut [Turn<E>],
 )
     requires { (length heads.old ≤ 65535) × (length records.old ≡ 64) }
-    ensures ran { RanPiled E.Element.rest E.Element.updated (length heads.old) turns.new }
+    ensures ran { RanPiledBy E.Element (length heads.old) turns.new }
     ensures calls { map (λ e. e.call) turns.new ≡ map (λ e. e.call) turns.old }
 {
     let mut chain = ChainStore::new(heads, records);

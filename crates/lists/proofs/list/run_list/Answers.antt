@@ -1,15 +1,9 @@
-use Rattle.std.proofs.Common.{length, string_bytes, ap, ◌∙◌, subst, arith}
+use Rattle.std.proofs.Common.{string_bytes, ap, ◌∙◌, subst}
 use Rattle.std.proofs.lemmas.Result.{IfOk-weaker}
 use Rattle.calls.specs.Header.{HeaderRead, NoHeader}
 use Rattle.text.specs.Lines.{line_of, after_line}
 use Rattle.lists.specs.Printing.{headless, headed, BodyOf}
-use Rattle.lists.proofs.Onward.{after_fits}
 use Rattle.lists.proofs.list.run_list.Goals as goal
-
-pub run_body-requires : goal.run_body-requires
-run_body-requires c =
-    let e = c.take_line.ensures.rest ∙ ap after_line c.new.ensures in
-    omega (arith, ap length e, after_fits c.args.text.now)
 
 pub returns-in-Ok : goal.returns-in-Ok
 returns-in-Ok c =
@@ -22,6 +16,6 @@ returns-in-Ok c =
 pub returns-in-Err : goal.returns-in-Err
 returns-in-Err c =
     let l = c.take_line.ensures.line ∙ ap line_of c.new.ensures in
-    IfOk-weaker c.bad_text-in-Err.result _ _
+    IfOk-weaker c.to_string-in-Err.result _ _
     (λ out told. headless c.if-text-gt-MOST_BYTES.false c.in-Err.why (subst (λ bs. NoHeader bs c.in-Err.why) l c.in-Err.ensures) told)
-    c.bad_text-in-Err.ensures
+    c.to_string-in-Err.ensures.ok
