@@ -1,7 +1,7 @@
 // Whole lives of tasks on engines over a flat store of counts, for the benchmark to time.
 #![tactic(auto)]
 
-ghost use Rattle.std.specs.Prelude.{◌≡◌, ◌+◌, ◌*◌, ◌<◌, ◌≤◌, true, ◌⊎◌, length, is_ok, IfOk, if◌then◌else◌, None, Ok, slice_index_or, slice_set};
+ghost use Rattle.std.specs.Prelude.{◌≡◌, ◌+◌, ◌*◌, ◌<◌, ◌≤◌, true, ◌⊎◌, length, is_ok, IfOk, IfSome, IsSome, IsTrue, ◌↔◌, if◌then◌else◌, None, Ok, slice_index_or, slice_set};
 ghost use Rattle.order.specs.Tasks.{count};
 ghost use Rattle.order.specs.View.{root, view};
 ghost use Rattle.lives.specs.Crowd.{Calm, born, fits};
@@ -50,42 +50,62 @@ fn live<S: Store>(engine: &mut Engine<S>, cell: u16, amount: S::E) -> Result<(),
     engine.finish(task)
 }
 
-// So many lives on the cell of a new engine, beside so many tasks that are alive; answers how many were accepted throughout.
-fn round(room: Room, places: &mut [Count], cell: u16, alive: u16, lives: u16) -> u16
-    requires { (0 < cell) × ((cell < 65535) × ((cell < length places.old) × ((1 ≤ alive) × (alive + lives ≤ 64)))) }
-    ensures { result ≡ lives }
-{
-    let mut engine = Engine::new(room, FlatStore::new(places));
-    for k in 1..alive {
-        let _ = create_task(&mut engine, k % cell);
-    }
-    let mut lived = 0;
-    for _ in 0..lives {
-        if live(&mut engine, cell, Count { value: 1 }).is_ok() {
-            lived += 1;
-        }
-    }
-    lived
-}
-
-// The lives of so many engines, one after the other over the same cells.
-fn rounds(
-    heap: Global,
-    places: &mut [Count],
+// What each engine of a run is to bear: so many lives on one cell, beside so many tasks that are alive, task 0 among them.
+#[derive(Clone, Copy)]
+struct Crowd {
     cell: u16,
     alive: u16,
     lives: u16,
-    engines: u32,
-) -> Result<u64, AllocError>
-    requires { (0 < cell) × ((cell < 65535) × ((cell < length places.old) × ((1 ≤ alive) × (alive + lives ≤ 64)))) }
-    ensures { IfOk result (λ n. n ≡ engines * lives) }
-{
-    let mut lived = 0;
-    for _ in 0..engines {
-        let room = Room::reserve(heap)?;
-        lived += round(room, places, cell, alive, lives) as u64;
+    ghost later: { (0 < cell) × (cell < 65535) },
+    ghost fits: { (1 ≤ alive) × (alive + lives ≤ 64) },
+}
+
+impl Crowd {
+    // Each life is on the last of the cells, and the other tasks are on the others. None where that doesn't fit on an engine.
+    fn new(cells: u16, alive: u16, lives: u16) -> Option<Crowd>
+        ensures none { IsSome result ↔ IsTrue (fits cells alive lives) }
+        ensures some { IfSome result (λ c. (c.cell + 1 ≡ cells) × (c.lives ≡ lives)) }
+    {
+        if cells < 2 || alive < 1 || u32::from(alive) + u32::from(lives) > MOST_TASKS {
+            return None;
+        }
+        Some(Crowd {
+            cell: cells - 1,
+            alive,
+            lives,
+        })
     }
-    Ok(lived)
+
+    // The lives on a new engine; answers how many were accepted throughout.
+    fn round(self, room: Room, places: &mut [Count]) -> u16
+        requires { self.cell < length places.old }
+        ensures { result ≡ self.lives }
+    {
+        let mut engine = Engine::new(room, FlatStore::new(places));
+        for k in 1..self.alive {
+            let _ = create_task(&mut engine, k % self.cell);
+        }
+        let mut lived = 0;
+        for _ in 0..self.lives {
+            if live(&mut engine, self.cell, Count { value: 1 }).is_ok() {
+                lived += 1;
+            }
+        }
+        lived
+    }
+
+    // The lives of so many engines, one after the other over the same cells.
+    fn rounds(self, heap: Global, places: &mut [Count], engines: u32) -> Result<u64, AllocError>
+        requires { self.cell < length places.old }
+        ensures { IfOk result (λ n. n ≡ engines * self.lives) }
+    {
+        let mut lived = 0;
+        for _ in 0..engines {
+            let room = Room::reserve(heap)?;
+            lived += u64::from(self.round(room, places));
+        }
+        Ok(lived)
+    }
 }
 
 // On each of so many engines, so many lives beside so many tasks that are alive, task 0 among them; answers how many lives were
@@ -99,14 +119,14 @@ pub fn count_lives(
 ) -> Result<u64, AllocError>
     ensures { IfOk result (λ n. n ≡ (if fits cells alive lives then engines * lives else 0)) }
 {
-    if cells < 2 || alive < 1 || alive as u32 + lives as u32 > MOST_TASKS {
+    let Some(crowd) = Crowd::new(cells, alive, lives) else {
         return Ok(0);
-    }
-    let mut places = Vec::from_elem(heap, Count::at_rest(), cells as usize)?;
-    rounds(heap, &mut places, cells - 1, alive, lives, engines)
+    };
+    let mut places = Vec::from_elem(heap, Count::at_rest(), usize::from(cells))?;
+    crowd.rounds(heap, &mut places, engines)
 }
 
-// The same for a caller in another language, which gets 0 where memory is wanting.
+// The same for a caller in another language. C has no `Result`: it gets 0 where memory is wanting.
 #[unsafe(no_mangle)]
 pub extern "C" fn palmcroquet_lives(
     heap: Global,
@@ -117,8 +137,5 @@ pub extern "C" fn palmcroquet_lives(
 ) -> u64
     ensures { (result ≡ (if fits cells alive lives then engines * lives else 0)) ⊎ (result ≡ 0) }
 {
-    match count_lives(heap, cells, alive, lives, engines) {
-        Ok(lived) => lived,
-        Err(_) => 0,
-    }
+    count_lives(heap, cells, alive, lives, engines).unwrap_or(0)
 }
