@@ -23,7 +23,7 @@ use Rattle.order.specs.declared.refusal.Refusal.TheVariants.{
   ShortList,
 }
 use Rattle.order.specs.Asked.{running_questions}
-use Rattle.order.specs.Questions.{Question, Call, create, start, finish, wait, resume, release, step, look, ready, ask, all_yes, first_number, questions, accepted, first_no, after, task_exists, region_lies, holds_region, few_runs_remain}
+use Rattle.order.specs.Questions.{Question, Call, create, start, finish, wait, resume, release, step, look, ready, ask, all_yes, first_number, questions, accepted, first_no, after, task_exists, region_lies}
 use Rattle.order.specs.Refusals.{refusal_number}
 use Rattle.order.specs.Tasks.{World, is_running, state_of}
 use Rattle.order.specs.View.{Did, answer_number}
@@ -151,13 +151,6 @@ pub before_running :
     refusal_number why ≡ first_number (running_questions w t) →
     refusal_number why ≡ first_number (running_questions w t ++ more)
 before_running w t more why e = front_no (running_questions w t) more (refusal_number why) (number_positive why) e
-
-pub before_release :
-    (w : World) (t lo hi : ℕ) (why : Refusal) →
-    refusal_number why ≡ first_number (running_questions w t) →
-    refusal_number why ≡ first_no w (release t lo hi)
-before_release w t lo hi why e =
-    before_running w t (ask BadRegion (region_lies w lo hi) ∷ ask NotHeld (holds_region w t lo hi) ∷ ask TooManyRuns (few_runs_remain w t lo hi) ∷ []) why e
 
 pub region_end : (w : World) (lo hi : ℕ) → region_lies w lo hi ≡ true → hi ≤ w.cells
 region_end w lo hi e = leb-true hi w.cells (and_parts (ltb lo hi) (leb hi w.cells) e).1

@@ -54,16 +54,6 @@ view_set cells tasks t k h p =
     let b = tasks_set cells tasks t k h in
     λ i. record { cells = cells; tree = reverse (drop 1 (a i)); task = b i }
 
--- another record that reads as the same task
-pub view_kept :
-    (cells : ℕ) (tasks : List code.Task) (t : ℕ) (k : code.Task) →
-    t < length tasks →
-    k.parent ≡ parent_at tasks t →
-    task_of k ≡ (world_of cells tasks).task t →
-    world_of cells (set tasks t k) ≡ world_of cells tasks
-view_kept cells tasks t k h p e =
-    world_same cells (set tasks t k) tasks (map_kept (λ j. j.parent) 0 tasks t k p) (map_kept task_of (root cells) tasks t k e)
-
 tree_push :
     (tasks : List code.Task) (k : code.Task) →
     1 ≤ length tasks →

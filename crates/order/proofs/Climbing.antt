@@ -3,7 +3,7 @@
 use Rattle.std.proofs.Common.{◌≡◌, ℕ, zero, suc, ◌<◌, ◌≤◌, Bool, true, false, cond, not, ◌&&◌, ◌||◌, eqb, ltb, ◌⊎◌, List, [], ◌∷◌, ◌++◌, length, sym, refl, ap, ◌∙◌, subst, inl, inr, arith}
 use Rattle.std.specs.List.{AllByRecursion as All}
 use Rattle.std.proofs.ByRecursion.{All-append, All-weaker}
-use Rattle.std.proofs.lemmas.Bool.{and_parts, and_from, cases_eq, or_cases, or_left, or_right, or_from, eqb-true, lt-ltb, le-ltb, eq-eqb, ne_eqb, cond-true, cond-false}
+use Rattle.std.proofs.lemmas.Bool.{and_parts, and_from, cases_eq, or_cases, or_left, or_right, or_from, eqb-true, lt-ltb, eq-eqb, ne_eqb, cond-true, cond-false}
 use Rattle.order.specs.declared.task.Task as code
 use Rattle.order.specs.Records.{Sound, parent_at}
 use Rattle.order.specs.Tasks.{World, count, path, above, parts_lower, ancestor, earlier}
@@ -188,9 +188,6 @@ module _ (cells : ℕ) (tasks : List code.Task) where
             go (inl s) = above_lower pp pa b (way_below a b lt (omega arith)) s
             go (inr s) = lower_more_right pa pp b s
 
-    pub reached_first : (u t : ℕ) → ancestor (world_of cells tasks) u t ≡ reached u t t
-    reached_first u t = rw (le-ltb t t (omega arith)) refl
-
     pub reached_up : (u t b : ℕ) → u < b → b ≤ t → b < length tasks → reached u t b ≡ reached u t (parent_at tasks b)
     reached_up u t b lt le hb =
         let low = sound.2 b (omega arith) hb in
@@ -274,6 +271,3 @@ module _ (cells : ℕ) (tasks : List code.Task) where
             ∙ sym (cond-true (eqb a p) false _ (eq-eqb a p e))
         go (inr n) =
             sym (cond-false (eqb a p) false _ (ne_eqb a p n) ∙ cond-false (eqb p t) (earlier w a p) (before a p) (ne_eqb p t (λ e. omega (arith, low))))
-
-    pub found_last : (t a : ℕ) (flag : Bool) → found t a a flag ≡ flag
-    found_last t a flag = cond-true (eqb a a) flag _ (eq-eqb a a refl)

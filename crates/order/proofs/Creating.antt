@@ -1,13 +1,12 @@
 -- A new task: the questions of a create in their order, and the records with one more.
 -- Assumes nothing.
-use Rattle.std.proofs.Common.{◌≡◌, ℕ, ◌<◌, ◌≤◌, Bool, true, false, not, ◌&&◌, ltb, leb, List, [], ◌∷◌, length, get_or, Ok, Err, Option, Result, sym, refl, ap, ◌∙◌, arith, MatchResult}
+use Rattle.std.proofs.Common.{◌≡◌, ℕ, ◌<◌, Bool, true, false, not, ◌&&◌, ltb, leb, List, [], ◌∷◌, length, get_or, Option, sym, refl, ap, ◌∙◌, arith}
 use mathlib.Core.Path.{fun_ext}
 use Rattle.std.proofs.lemmas.List.Recursion.{same_from_clauses}
-use Rattle.std.proofs.lemmas.Bool.{lt-ltb, le-ltb}
+use Rattle.std.proofs.lemmas.Bool.{lt-ltb}
 use Rattle.std.specs.List.{list_all}
 use Rattle.kinds.specs.declared.access.Access.{Access}
 use Rattle.kinds.specs.declared.holding.Holding.{Holding}
-use Rattle.order.specs.declared.refusal.Refusal.{Refusal}
 use Rattle.order.specs.declared.refusal.Refusal.TheVariants.{TooManyTasks, TooManyAccesses, BadRegion, UnknownKind, CommutativeParent, NotCovered}
 use Rattle.order.specs.declared.runs.Runs.{Runs}
 use Rattle.order.specs.declared.task.Task.{Task}
@@ -27,10 +26,9 @@ use Rattle.order.specs.Questions.{
   regions_lie,
 }
 use Rattle.order.specs.Records.{Sound}
-use Rattle.order.specs.Refusals.{refusal_number}
 use Rattle.order.specs.Tasks.{World, count, every, holds}
 use Rattle.order.specs.View.{world_of}
-use Rattle.order.proofs.Answering.{at_no, past_yes, past_running, before_running, running_parts, refused_number}
+use Rattle.order.proofs.Answering.{at_no, past_yes, past_running, running_parts}
 use Rattle.order.proofs.Turning.{holds_read, running_within, runs_reach}
 use Rattle.order.proofs.Viewed.{count_of}
 
@@ -62,36 +60,21 @@ third_on w p list = ask TooManyTasks (ltb (count w) most_tasks) ∷ fourth_on w 
 
 -- the answer to each where those before are answered yes
 module _ (w : World) (p : ℕ) (list : List Access) where
-  pub parent_refused : (why : Refusal) → refusal_number why ≡ first_number (running_questions w p) → refusal_number why ≡ first_number (create_questions w p list)
-  parent_refused why e = before_running w p (third_on w p list) why e
-
   module _ (running : 0 ≡ first_number (running_questions w p)) where
     third : (n : ℕ) → n ≡ first_number (third_on w p list) → n ≡ first_number (create_questions w p list)
     third n e = past_running w p (third_on w p list) n running e
-
-    pub full : ltb (count w) most_tasks ≡ false → 3 ≡ first_number (create_questions w p list)
-    full e = third 3 (at_no TooManyTasks (ltb (count w) most_tasks) (fourth_on w p list) e)
 
     module _ (room : ltb (count w) most_tasks ≡ true) where
       fourth : (n : ℕ) → n ≡ first_number (fourth_on w p list) → n ≡ first_number (create_questions w p list)
       fourth n e = third n (past_yes TooManyTasks (ltb (count w) most_tasks) (fourth_on w p list) n room e)
 
-      pub many : leb (length list) most_accesses ≡ false → 4 ≡ first_number (create_questions w p list)
-      many e = fourth 4 (at_no TooManyAccesses (leb (length list) most_accesses) (fifth_on w p list) e)
-
       module _ (few : leb (length list) most_accesses ≡ true) where
         fifth : (n : ℕ) → n ≡ first_number (fifth_on w p list) → n ≡ first_number (create_questions w p list)
         fifth n e = fourth n (past_yes TooManyAccesses (leb (length list) most_accesses) (fifth_on w p list) n few e)
 
-        pub bad_region : regions_lie w list ≡ false → 5 ≡ first_number (create_questions w p list)
-        bad_region e = fifth 5 (at_no BadRegion (regions_lie w list) (sixth_on w p list) e)
-
         module _ (lie : regions_lie w list ≡ true) where
           sixth : (n : ℕ) → n ≡ first_number (sixth_on w p list) → n ≡ first_number (create_questions w p list)
           sixth n e = fifth n (past_yes BadRegion (regions_lie w list) (sixth_on w p list) n lie e)
-
-          pub unknown_kind : kinds_known list ≡ false → 6 ≡ first_number (create_questions w p list)
-          unknown_kind e = sixth 6 (at_no UnknownKind (kinds_known list) (seventh_on w p list) e)
 
           module _ (known : kinds_known list ≡ true) where
             seventh : (n : ℕ) → n ≡ first_number (seventh_on w p list) → n ≡ first_number (create_questions w p list)
@@ -113,19 +96,6 @@ module _ (w : World) (p : ℕ) (list : List Access) where
 module _ (cells : ℕ) (tasks : List Task) (sound : Sound cells tasks) where
   pub room_read : length tasks < 64 → ltb (count (world_of cells tasks)) most_tasks ≡ true
   room_read h = let n = count_of cells tasks sound.0 in lt-ltb (count (world_of cells tasks)) 64 (omega arith)
-
-  pub full_read : 64 ≤ length tasks → ltb (count (world_of cells tasks)) most_tasks ≡ false
-  full_read h = let n = count_of cells tasks sound.0 in le-ltb (count (world_of cells tasks)) 64 (omega arith)
-
--- a refused create, answered under another name
-pub refused_runs :
-    (cells : ℕ) (w : World) (p : ℕ) (list : List Access) (r : Result Runs Refusal) (e why : Refusal) →
-    r ≡ Err e →
-    e ≡ why →
-    refusal_number why ≡ first_number (create_questions w p list) →
-    MatchResult r (λ s. (0 ≡ first_number (create_questions w p list)) × Asks cells list s) (λ x. refusal_number x ≡ first_number (create_questions w p list))
-refused_runs cells w p list (Ok s) e why q f n = let z : ◌≡◌ {A = ℕ} 0 1 = cc in absurd (omega arith)
-refused_runs cells w p list (Err x) e why q f n = refused_number {U = Runs} (Err x) e why q f ∙ n
 
 -- what the parent's record and the new runs say to the last two
 module _ (cells : ℕ) (tasks : List Task) (sound : Sound cells tasks) (p : ℕ) (running : 0 ≡ first_number (running_questions (world_of cells tasks) p)) (k : Task) (r : k ≡ get_or tasks p k) where

@@ -142,18 +142,6 @@ too_many k xs ys e =
     let b = length-append xs ys in
     lt-leb (length (xs ++ ys)) k (omega arith)
 
--- what is left of a run, added in two parts
-pub parted :
-    (xs ys : List Run) (r : Run) (lo hi a b : ℕ) →
-    a ≡ min r.hi lo →
-    b ≡ max r.lo hi →
-    ys ≡ xs ++ if_any (part r r.lo a) →
-    ys ++ if_any (part r b r.hi) ≡ xs ++ left lo hi r
-parted xs ys r lo hi a b i j e =
-    ap (λ x. ys ++ if_any (part r x r.hi)) j
-    ∙ (ap (λ l. l ++ if_any (part r (max r.lo hi) r.hi)) (e ∙ ap (λ x. xs ++ if_any (part r r.lo x)) i)
-    ∙ append_assoc xs (if_any (part r r.lo (min r.hi lo))) (if_any (part r (max r.lo hi) r.hi)))
-
 -- the loop that adds what is left of each run
 pub one_left :
     (lo hi : ℕ) (out xs ys : List Run) (i : ℕ) →
@@ -163,11 +151,3 @@ pub one_left :
 one_left lo hi out xs ys i inv h =
     append_assoc out (left lo hi (get_or xs i blank)) (all_left lo hi (drop (i + 1) xs))
     ∙ (ap (λ l. out ++ l) (sym (at_drop_more (all_left lo hi) xs i blank h)) ∙ inv)
-
-pub next_left :
-    (lo hi : ℕ) (out out' xs ys : List Run) (i : ℕ) →
-    out ++ all_left lo hi (drop i xs) ≡ ys →
-    i < length xs →
-    out' ≡ out ++ left lo hi (get_or xs i blank) →
-    out' ++ all_left lo hi (drop (i + 1) xs) ≡ ys
-next_left lo hi out out' xs ys i inv h e = ap (λ l. l ++ all_left lo hi (drop (i + 1) xs)) e ∙ one_left lo hi out xs ys i inv h

@@ -15,8 +15,6 @@ pub mod Sweeping
 pub mod Changing
 pub mod Tallies
 pub mod Answering
-pub mod Releasing
 pub mod Turning
-pub mod Asking
 pub mod Creating
 pub mod Adding

@@ -3,39 +3,20 @@
 use Rattle.std.proofs.Common.{◌≡◌, ℕ, suc, ◌+◌, ◌<◌, ◌≤◌, Bool, true, false, cond, ◌&&◌, eqb, ltb, ◌⊎◌, List, [], ◌∷◌, ◌++◌, length, take, drop, set, is_ok, Ok, Err, Result, sym, refl, ap, ◌∙◌, subst, inl, inr, add-one, arith}
 use Rattle.std.specs.List.{AllByRecursion as All}
 use Rattle.std.proofs.lemmas.List.{take_more_set, drop-set-lt, drop-drop}
-use Rattle.std.proofs.lemmas.Bool.{and_right, cases_eq, cases_lt, cond-true, cond-false, eq-eqb, ne_eqb, lt-ltb, le-ltb, le-leb}
+use Rattle.std.proofs.lemmas.Bool.{and_right, cases_eq, cases_lt, cond-true, cond-false, eq-eqb, ne_eqb, lt-ltb, le-ltb}
 use Rattle.order.specs.declared.refusal.Refusal.{Refusal}
-use Rattle.order.specs.declared.refusal.Refusal.TheVariants.{NoSuchTask, WrongState, TooManyTasks, TooManyAccesses, BadRegion, UnknownKind, CommutativeParent, NotCovered, EarlierConflict, CommutativeBusy, ChildrenOpen, NotHeld, TooManyRuns, NoSuchCell, NoFittingHolding, DescendantConflict, ShortList}
+use Rattle.order.specs.declared.refusal.Refusal.TheVariants.{NoSuchTask, WrongState, EarlierConflict, CommutativeBusy}
 use Rattle.order.specs.Questions.{Question, all_yes, first_number, accepted, first_no, start, questions}
-use Rattle.order.specs.Ready.{times, Listed}
+use Rattle.order.specs.Ready.{times}
 use Rattle.order.specs.Records.{tally}
 use Rattle.order.specs.Refusals.{refusal_number}
-use Rattle.order.specs.Tasks.{World, count}
+use Rattle.order.specs.Tasks.{World}
 use Rattle.order.specs.View.{answer_number}
-
--- no refusal has the number 0
-refused : (why : Refusal) → 0 < refusal_number why
-refused NoSuchTask = omega arith
-refused WrongState = omega arith
-refused TooManyTasks = omega arith
-refused TooManyAccesses = omega arith
-refused BadRegion = omega arith
-refused UnknownKind = omega arith
-refused CommutativeParent = omega arith
-refused NotCovered = omega arith
-refused EarlierConflict = omega arith
-refused CommutativeBusy = omega arith
-refused ChildrenOpen = omega arith
-refused NotHeld = omega arith
-refused TooManyRuns = omega arith
-refused NoSuchCell = omega arith
-refused NoFittingHolding = omega arith
-refused DescendantConflict = omega arith
-refused ShortList = omega arith
+use Rattle.order.proofs.Answering.{number_positive}
 
 ok_zero : {U : Type 0} (r : Result U Refusal) → is_ok r ≡ eqb (answer_number r) 0
 ok_zero (Ok u) = refl
-ok_zero (Err why) = sym (ne_eqb (refusal_number why) 0 (λ e. omega (arith, refused why)))
+ok_zero (Err why) = sym (ne_eqb (refusal_number why) 0 (λ e. omega (arith, number_positive why)))
 
 yes_zero : (qs : List Question) → All (λ q. 0 < q.number) qs → all_yes qs ≡ eqb (first_number qs) 0
 yes_zero [] a = refl
@@ -50,7 +31,7 @@ pub start_ok : {U : Type 0} (w : World) (t : ℕ) (r : Result U Refusal) → ans
 start_ok w t r e =
     ok_zero r
     ∙ (ap (λ (n : ℕ). eqb n 0) e
-    ∙ sym (yes_zero (questions w (start t)) (refused NoSuchTask, (refused WrongState, (refused EarlierConflict, (refused CommutativeBusy, tt))))))
+    ∙ sym (yes_zero (questions w (start t)) (number_positive NoSuchTask, (number_positive WrongState, (number_positive EarlierConflict, (number_positive CommutativeBusy, tt))))))
 
 times_push : (s t : ℕ) (l : List ℕ) → times s (l ++ t ∷ []) ≡ times s l + cond (eqb t s) 1 0
 times_push s t [] = go (eqb t s)
@@ -81,9 +62,6 @@ SoFar f before t n after =
     × (drop n after ≡ drop n before)
 
 module _ (f : ℕ → Bool) (before : List ℕ) where
-  pub so_far_first : SoFar f before 0 0 before
-  so_far_first = (omega arith, refl, λ s. sym (cond-false (ltb s 0 && f s) 1 0 (ap (λ (b : Bool). b && f s) (le-ltb s 0 (omega arith)))), refl)
-
   module _ (t n : ℕ) (after : List ℕ) (so : SoFar f before t n after) where
     pub so_far_skip : f t ≡ false → SoFar f before (t + 1) n after
     so_far_skip e =
@@ -116,21 +94,3 @@ module _ (f : ℕ → Bool) (before : List ℕ) where
         rest =
             drop-set-lt (n + 1) after n t (omega arith)
             ∙ (sym (drop-drop 1 n after) ∙ (ap (λ (l : List ℕ). drop 1 l) so.3 ∙ drop-drop 1 n before))
-
--- once all tasks were looked at, the list is the one asked for
-pub listed :
-    (w : World) (before after : List ℕ) (t n : ℕ) →
-    64 ≤ length before →
-    t ≡ count w →
-    SoFar (λ s. accepted w (start s)) before t n after →
-    Listed w before (Ok n) after
-listed w before after t n room all so = (
-  ap (λ (b : Bool). b && true) (le-leb 64 (length before) room),
-  so.1 ∙ ap (λ (x : ℕ). tally x (λ s. accepted w (start s))) all,
-  λ s. so.2 s ∙ (ap (λ (x : ℕ). cond (ltb s x && accepted w (start s)) 1 0) all ∙ ap (λ (b : Bool). cond b 1 0) (twice (ltb s (count w)) _)),
-  so.3,
-)
-  where
-    twice : (a b : Bool) → (a && (a && b)) ≡ (a && b)
-    twice true b = refl
-    twice false b = refl

@@ -1,7 +1,7 @@
 -- What two records hold of the cells now, and the questions about one other task in the terms of the records.
 -- Assumes nothing.
 use Rattle.std.proofs.Common.{◌≡◌, ℕ, ◌<◌, Bool, true, false, cond, not, ◌&&◌, ◌||◌, eqb, ◌⊎◌, List, length, get_or, Some, None, Option, sym, refl, ap, ◌∙◌, inl, inr}
-use Rattle.std.proofs.lemmas.Bool.{cond-true, cond-false, cases_Bool, or_left, or_right, eq-eqb, ne_eqb}
+use Rattle.std.proofs.lemmas.Bool.{cond-true, cond-false, ne_eqb}
 use Rattle.kinds.specs.declared.deed.Deed.{Deed}
 use Rattle.kinds.specs.declared.holding.Holding.{Holding}
 use Rattle.order.specs.declared.task.Task as code
@@ -12,8 +12,7 @@ use Rattle.order.specs.Records.{Sound, ended, holding_now}
 use Rattle.order.specs.Stretches.{end_by}
 use Rattle.order.specs.Tasks.{every, every_cell, is_created, state_of, earlier, ancestor, holds}
 use Rattle.order.specs.View.{world_of, task_of, root}
-use Rattle.kinds.proofs.Every.{clash}
-use Rattle.order.proofs.Bounded.{every_at, every_from, every_like}
+use Rattle.order.proofs.Bounded.{every_from, every_like}
 use Rattle.order.proofs.Completion.{ended_is}
 use Rattle.order.proofs.Viewed.{read_at}
 
@@ -79,12 +78,6 @@ module _ (cells : ℕ) (tasks : List code.Task) (sound : Sound cells tasks) wher
   created_is : (u : ℕ) (l : code.Task) → u < length tasks → l ≡ get_or tasks u l → is_created (state_of (world_of cells tasks) u) ≡ is_created l.state
   created_is u l hu el = ap is_created (state_is u l hu el)
 
-  pub takes_turns_idle :
-      (t u : ℕ) (l : code.Task) → u < length tasks → l ≡ get_or tasks u l → (u ≡ t) ⊎ (is_created l.state ≡ true) → true ≡ takes_turns (world_of cells tasks) t u
-  takes_turns_idle t u l hu el (inl e) = sym (or_left _ _ (or_left (eqb u t) (is_created (state_of (world_of cells tasks) u)) (eq-eqb u t e)))
-  takes_turns_idle t u l hu el (inr e) =
-      sym (or_left _ _ (or_right (eqb u t) (is_created (state_of (world_of cells tasks) u)) (created_is u l hu el ∙ e)))
-
   pub stands_aside_is :
       (d : Deed) (t c u : ℕ) (l : code.Task) →
       u < length tasks →
@@ -143,11 +136,3 @@ left_decides b e p = rw p refl
 
 pub right_decides : (b e : Bool) → b ≡ true → not e ≡ (not b || not e)
 right_decides b e p = rw p refl
-
--- a question to all tasks has the answer no where it has at one
-pub every_not : (n : ℕ) (f : ℕ → Bool) (i : ℕ) → i < n → f i ≡ false → every n f ≡ false
-every_not n f i h e = go (cases_Bool (every n f))
-  where
-    go : (every n f ≡ true) ⊎ (every n f ≡ false) → every n f ≡ false
-    go (inl a) = clash (sym e ∙ every_at n f a i h)
-    go (inr a) = a

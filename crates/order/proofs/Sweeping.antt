@@ -14,10 +14,6 @@ use Rattle.order.specs.Tasks.{World}
 use Rattle.kinds.proofs.Combining.{combine_held_lawful}
 use Rattle.order.proofs.Stretched.{within_in, within_before, within_after, first_run, none_below}
 
--- what a read beyond the end would give
-abbrev pub no_access : Access
-no_access = record { lo = 0; hi = 0; code = 0 }
-
 -- what a fold over the accesses gives
 combine_none : (h : Option Holding) → combine_held h None ≡ h
 combine_none None = refl

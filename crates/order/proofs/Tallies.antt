@@ -1,10 +1,10 @@
 -- How the tallies of open children follow one change of one record.
 -- Assumes nothing.
-use Rattle.std.proofs.Common.{◌≡◌, ℕ, zero, suc, ◌+◌, ◌-◌, ◌<◌, Bool, true, false, cond, not, ◌&&◌, eqb, ltb, ◌⊎◌, List, [], ◌∷◌, map, length, get_or, set, sym, refl, ap, ◌∙◌, subst, inl, inr, add-zero, arith}
+use Rattle.std.proofs.Common.{◌≡◌, ℕ, zero, suc, ◌+◌, ◌-◌, ◌<◌, Bool, true, false, cond, not, ◌&&◌, eqb, ltb, ◌⊎◌, List, [], ◌∷◌, map, length, get_or, set, sym, refl, ap, ◌∙◌, subst, inl, inr, arith}
 use Rattle.std.proofs.lemmas.List.{map-set, get_or-map, get_or-set_same, get_or-set_other, get_or_default, length-map, length-set}
-use Rattle.std.proofs.lemmas.Bool.{cases_eq, and_from, and_left, and_right, eq-eqb, ne_eqb, lt-ltb, le-ltb, cond-true, cond-false}
+use Rattle.std.proofs.lemmas.Bool.{cases_eq, and_from, and_right, eq-eqb, ne_eqb, lt-ltb, cond-true, cond-false}
 use Rattle.order.specs.declared.task.Task.{Task}
-use Rattle.order.specs.Counting.{with_open, uncounted, Older, Counted, Untold}
+use Rattle.order.specs.Counting.{with_open, uncounted, Older, Untold}
 use Rattle.order.specs.Records.{tally, parent_at, open_at, complete, complete_at, open_child}
 use Rattle.order.specs.Tasks.{is_finished}
 use Rattle.order.proofs.Changing.{map_kept}
@@ -119,10 +119,6 @@ pub open_here : (tasks : List Task) (x : ℕ) (k : Task) → x < length tasks �
 open_here tasks x k h =
     ap (λ (l : List ℕ). get_or l x 0) (map-set (λ j. j.open) tasks x k) ∙ get_or-set_same (map (λ j. j.open) tasks) x k.open 0 (simp length-map h)
 
-pub complete_here : (tasks : List Task) (x : ℕ) (k : Task) → x < length tasks → complete_at (set tasks x k) x ≡ complete k
-complete_here tasks x k h =
-    ap (λ (l : List Bool). get_or l x false) (map-set complete tasks x k) ∙ get_or-set_same (map complete tasks) x (complete k) false (simp length-map h)
-
 -- a record with an open child is not complete
 pub not_complete_open : (k : Task) → 0 < k.open → complete k ≡ false
 not_complete_open k h = and_right (is_finished k.state) (eqb k.open 0) (ne_eqb k.open 0 (λ e. omega arith))
@@ -206,16 +202,6 @@ told tasks x p k a h e r d u t l = go (cases_eq t p)
         let y = before in
         omega arith
         )
-
--- nothing is left to tell of a task that is not complete, or that is task 0
-pub all_told : (tasks : List Task) (x : ℕ) → ((x ≡ 0) ⊎ (complete_at tasks x ≡ false)) → Untold tasks x → Counted tasks
-all_told tasks x e u t h = u t h ∙ (ap (λ (b : Bool). tally (length tasks) (open_child tasks t) + cond b 1 0) (none e) ∙ add-zero _)
-  where
-    none : ((x ≡ 0) ⊎ (complete_at tasks x ≡ false)) → (complete_at tasks x && (ltb 0 x && eqb (parent_at tasks x) t)) ≡ false
-    none (inl z) =
-        and_right (complete_at tasks x) (ltb 0 x && eqb (parent_at tasks x) t)
-        (and_left (ltb 0 x) (eqb (parent_at tasks x) t) (le-ltb 0 x (omega arith)))
-    none (inr n) = and_left (complete_at tasks x) (ltb 0 x && eqb (parent_at tasks x) t) n
 
 pub older_kept : (a b : List Task) → map uncounted a ≡ map uncounted b → Older b → Older a
 older_kept a b q o t h l =

@@ -18,23 +18,18 @@ use Rattle.order.specs.Holdings.{held, in_use}
 use Rattle.kinds.specs.Kinds.{is_held, within}
 use Rattle.order.specs.Questions.{Question, ask, first_number, first_no, task_exists, region_lies, release, lightened, without, run_count, most_runs, no_earlier_conflict, commutative_free, children_complete, start, finish, wait, resume, put_task, turned}
 use Rattle.order.specs.Records.{Sound, tally, parent_at, complete, complete_at, open_child, reach_at}
-use Rattle.order.specs.Refusals.{refusal_number}
 use Rattle.order.specs.Stretches.{end_by}
 use Rattle.order.specs.Tasks as tasks
 use Rattle.order.specs.Tasks.{World, every, holds, count, state_of, is_created, is_running, is_waiting, is_finished}
 use Rattle.order.specs.Turns.{may_turn, turns_to, in_state, Turned, Released, resume_questions}
 use Rattle.order.specs.View.{Did, answer_number, task_of, root, world_of}
-use Rattle.order.proofs.Answering.{at_no, past_yes, past_running, running_parts, all_running_yes, did}
+use Rattle.order.proofs.Answering.{at_no, past_yes, past_running, running_parts, did}
 use Rattle.order.proofs.Changing.{map_kept, view_set, world_same}
 use Rattle.order.proofs.Completion.{open_is}
 use Rattle.order.proofs.Deeply.{holds_unfinished}
 use Rattle.kinds.proofs.Every.{clash}
 use Rattle.order.proofs.Tallies.{tally_flip, complete_other, older_kept, lengths_same, parents_same, uncounted_same}
 use Rattle.order.proofs.Viewed.{count_of, read_at}
-
--- the open children by what is read of each record
-child_open : List ℕ → List Bool → ℕ → ℕ → Bool
-child_open parents done p u = ltb 0 u && (eqb (get_or parents u 0) p && not (get_or done u false))
 
 open_child_same : (a b : List Task) → map (λ k. k.parent) a ≡ map (λ k. k.parent) b → map complete a ≡ map complete b → (t : ℕ) → open_child a t ≡ open_child b t
 open_child_same a b p q t = λ i u. ltb 0 u && (eqb (get_or (p i) u 0) t && not (get_or (q i) u false))
@@ -65,15 +60,6 @@ module _ (cells : ℕ) (tasks : List Task) (sound : Sound cells tasks) where
 
   pub exists_no : (t : ℕ) → length tasks ≤ t → task_exists (world_of cells tasks) t ≡ false
   exists_no t h = let n = count_of cells tasks sound.0 in le-ltb t (count (world_of cells tasks)) (omega arith)
-
-  pub unknown_running : (t : ℕ) → length tasks ≤ t → refusal_number NoSuchTask ≡ first_number (running_questions (world_of cells tasks) t)
-  unknown_running t h =
-      at_no NoSuchTask (task_exists (world_of cells tasks) t) (ask WrongState (is_running (state_of (world_of cells tasks) t)) ∷ []) (exists_no t h)
-
-  pub unknown_resume : (t : ℕ) → length tasks ≤ t → refusal_number NoSuchTask ≡ first_no (world_of cells tasks) (resume t)
-  unknown_resume t h =
-      at_no NoSuchTask (task_exists (world_of cells tasks) t)
-      (ask WrongState (is_waiting (state_of (world_of cells tasks) t)) ∷ ask ChildrenOpen (children_complete (world_of cells tasks) t) ∷ []) (exists_no t h)
 
   pub running_within : (t : ℕ) → 0 ≡ first_number (running_questions (world_of cells tasks) t) → t < length tasks
   running_within t z =
@@ -111,14 +97,6 @@ module _ (cells : ℕ) (tasks : List Task) (sound : Sound cells tasks) where
         fun_ext
         (λ c.
         holds_unfinished (world_of cells tasks) t (not_finished Finish (state_of (world_of cells tasks) t) e) c ∙ ap (λ x. x.hold c) (sym task_read))
-
-    pub not_running : is_running k.state ≡ false → 2 ≡ first_number (running_questions (world_of cells tasks) t)
-    not_running e =
-        past_yes NoSuchTask (task_exists (world_of cells tasks) t) (ask WrongState (is_running (state_of (world_of cells tasks) t)) ∷ []) 2 (exists_yes t h)
-        (at_no WrongState (is_running (state_of (world_of cells tasks) t)) [] (ap is_running (sym state_read) ∙ e))
-
-    pub all_running : is_running k.state ≡ true → 0 ≡ first_number (running_questions (world_of cells tasks) t)
-    all_running e = all_running_yes (world_of cells tasks) t (exists_yes t h) (ap is_running (sym state_read) ∙ e)
 
     same_record : (j : Task) → j ≡ k → set tasks t j ≡ tasks
     same_record j e = ap (set tasks t) (e ∙ r) ∙ set-get_or tasks t k
@@ -320,18 +298,6 @@ module _ (cells : ℕ) (tasks : List Task) (sound : Sound cells tasks) where
         go (inl y) = y
         go (inr f) =
             let z = resume_asks 2 (at_no WrongState (is_waiting k.state) (ask ChildrenOpen (eqb k.open 0) ∷ []) f) in absurd (omega arith)
-
-    -- a refused finish, answered under another name
-    pub refused_turn :
-        (why : Refusal) (j : Task) →
-        Turned k Finish (Err why) j →
-        (a : Result (Unit {0}) Refusal) (e : Refusal) →
-        a ≡ Err e →
-        e ≡ why →
-        Did (world_of cells tasks) (finish t) a (world_of cells (set tasks t j))
-    refused_turn why j f a e p q =
-        subst (λ (x : Result (Unit {0}) Refusal). Did (world_of cells tasks) (finish t) x (world_of cells (set tasks t j))) (sym (p ∙ ap (λ x. Err x) q))
-        (finish_did (Err why) j f)
 
     -- a finished task whose ancestors are not told yet
     module _ (u : Unit {0}) (j : Task) (e : Turned k Finish (Ok u) j) where

@@ -1,7 +1,4 @@
-use Rattle.std.proofs.Common.{sym, ◌∙◌, inr}
-use Rattle.std.proofs.lemmas.List.{get_or-map}
-use Rattle.order.specs.Records.{complete}
-use Rattle.order.proofs.Tallies.{up_lower, up_within, up_counts, up_told, all_told}
+use Rattle.order.proofs.Tallies.{up_lower, up_within, up_counts, up_told}
 use Rattle.order.proofs.counters.tell_ancestors.Goals as goal
 
 pub bounds-tasks-x-in-loop-x : goal.bounds-tasks-x-in-loop-x
@@ -23,13 +20,3 @@ pub loop-x-preserved : goal.loop-x-preserved
 loop-x-preserved c =
     up_told c.loop-x.tasks c.args.tasks.now c.loop-x.x _ _ _ c.loop-x.invariant c.requires.older c.loop-x-test.true
     c.if-is_complete.ensures c.close_child.new.self c.close_child.ensures
-
-pub returns-else-is_complete : goal.returns-else-is_complete
-returns-else-is_complete c =
-    record {
-      kept = c.loop-x.invariant.2;
-      counted =
-          all_told c.loop-x.tasks c.loop-x.x
-          (inr (get_or-map complete c.loop-x.tasks c.loop-x.x _ _ c.loop-x.invariant.0 ∙ sym c.if-is_complete.ensures))
-          c.loop-x.invariant.1;
-    }

@@ -6,7 +6,7 @@ use Rattle.order.specs.Cutting.{left, all_left}
 use Rattle.order.specs.Holdings.{in_use}
 use Rattle.order.specs.Stretches.{held_at, longest, end_by}
 use Rattle.order.proofs.Stretched.{blank}
-use Rattle.order.proofs.Cutting.{longest_front, longest_left, held_left, end_left, too_many, one_left, next_left}
+use Rattle.order.proofs.Cutting.{longest_front, longest_left, held_left, end_left, too_many, one_left}
 use Rattle.order.proofs.Counting.{count_left}
 use Rattle.order.proofs.Answering.{err_is}
 use Rattle.order.proofs.runs.Runs.without.Goals as goal
@@ -36,12 +36,6 @@ returns-in_err-push_left c n h =
           (all_left c.args.lo c.args.hi (drop (c.loop-run.run-index + 1) c.as_slice-run-items.result.now))
           c.in_err-push_left.ensures.room,
     )
-
-pub loop-run-preserved : goal.loop-run-preserved
-loop-run-preserved c =
-    next_left c.args.lo c.args.hi (in_use c.loop-run.out) (in_use c.push_left.new.self) c.as_slice-run-items.result.now
-    (all_left c.args.lo c.args.hi (in_use c.args.self.now)) c.loop-run.run-index c.loop-run.invariant c.loop-run-test.true
-    c.in_ok-push_left.ensures.runs
 
 pub returns : goal.returns
 returns c n h =

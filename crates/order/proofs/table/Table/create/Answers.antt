@@ -1,33 +1,15 @@
 use Rattle.std.proofs.Common.{sym, refl, ap, ◌∙◌, subst, arith}
-use Rattle.std.proofs.lemmas.Result.{err_from_is_err_and, IfOk-from_err}
 use Rattle.order.specs.declared.state.State.TheVariants.{Created}
 use Rattle.order.specs.Questions.{create}
 use Rattle.order.specs.Records.{Sound}
 use Rattle.order.specs.View.{view, world_of}
-use Rattle.order.proofs.Adding.{parent_within, room_left, few_open, create_sound, create_world}
-use Rattle.order.proofs.Answering.{refused_did, all_accepted}
+use Rattle.order.proofs.Adding.{few_open, create_sound, create_world}
+use Rattle.order.proofs.Answering.{all_accepted}
 use Rattle.order.proofs.Viewed.{count_of}
 use Rattle.order.proofs.table.Table.create.Goals as goal
 
-pub returns-in_err-runs : goal.returns-in_err-runs
-returns-in_err-runs c =
-    let p = err_from_is_err_and c.from_residual.result c.from_residual.ensures.1 in
-    record {
-      did =
-          refused_did (view c.args.self.now) (create c.args.parent c.args.waits c.args.accesses.now) c.from_residual.result p.0
-          c.in_err-runs.field-0.0 p.1 p.2 c.in_err-runs.ensures;
-      number = IfOk-from_err c.from_residual.result _ c.from_residual.ensures.0;
-    }
-
-pub index_mut-requires : goal.index_mut-requires
-index_mut-requires c = let h = parent_within c.args.self.now.cells c.args.self.now.tasks.items c.args.self.now.sound c.args.parent c.args.accesses.now c.in_ok-runs.ensures.0 in let n = c.args.self.now.tasks.ok.0 in omega arith
-
 pub open_child-requires : goal.open_child-requires
 open_child-requires c = few_open c.args.self.now.cells c.args.self.now.tasks.items c.args.self.now.sound c.args.parent c.args.accesses.now c.in_ok-runs.ensures.0 c.index_mut.result.now c.index_mut.ensures.value
-
-pub push_reserved-requires : goal.push_reserved-requires
-push_reserved-requires c =
-    let h = room_left c.args.self.now.cells c.args.self.now.tasks.items c.args.self.now.sound c.args.parent c.args.accesses.now c.in_ok-runs.ensures.0 in let n = c.args.self.now.tasks.ok.0 in let r = c.args.self.now.room in omega arith
 
 pub invariant_of-self : goal.invariant_of-self
 invariant_of-self c = record {

@@ -1,38 +1,14 @@
 use Rattle.std.proofs.Common.{◌<◌, List, map, length, Ok, sym, ap, ◌∙◌, subst}
 use Rattle.std.proofs.lemmas.List.{with_items_is}
-use Rattle.std.proofs.lemmas.Result.{err_from_is_err_and}
 use Rattle.std.specs.Vec.{with_item}
-use Rattle.order.specs.declared.refusal.Refusal.TheVariants.{NoSuchTask}
 use Rattle.order.specs.declared.task.Task.{Task}
 use Rattle.order.specs.Counting.{uncounted, Older, Untold}
 use Rattle.order.specs.Questions.{finish}
 use Rattle.order.specs.Records.{Sound}
 use Rattle.order.specs.View.{Did, view, world_of}
-use Rattle.order.proofs.Answering.{refused_did}
 use Rattle.order.proofs.Tallies.{lengths_same}
-use Rattle.order.proofs.Turning.{sound_kept, refused_turn, finish_untold, finish_sound, finish_told, unknown_running}
+use Rattle.order.proofs.Turning.{finish_untold, finish_sound, finish_told}
 use Rattle.order.proofs.table.Table.finish.Goals as goal
-
-pub returns-in_err-known : goal.returns-in_err-known
-returns-in_err-known c =
-    let p = err_from_is_err_and c.from_residual.result c.from_residual.ensures.1 in
-    let h = c.in_err-known.ensures in
-    refused_did (view c.args.self.now) (finish c.args.t) c.from_residual.result p.0 NoSuchTask p.1 (p.2 ∙ h.0)
-    (unknown_running c.args.self.now.cells c.args.self.now.tasks.items c.args.self.now.sound c.args.t h.1)
-
-pub invariant_of-self : goal.invariant_of-self
-invariant_of-self c = record {
-  room = c.args.self.now.room;
-  sound = sound_kept c.args.self.now.cells c.args.self.now.tasks.items c.args.self.now.sound c.args.t c.in_ok-known.ensures.0
-      c.index_mut.result.now c.index_mut.ensures.value c.turn.new.self c.in_err-turn.ensures.2;
-}
-
-pub returns-in_err-turn : goal.returns-in_err-turn
-returns-in_err-turn c =
-    let p = err_from_is_err_and c.from_residual-in_err-turn.result c.from_residual-in_err-turn.ensures.1 in
-    refused_turn c.args.self.now.cells c.args.self.now.tasks.items c.args.self.now.sound c.args.t c.in_ok-known.ensures.0
-    c.index_mut.result.now c.index_mut.ensures.value c.in_err-turn.field-0.0 c.turn.new.self c.in_err-turn.ensures
-    c.from_residual-in_err-turn.result p.0 p.1 p.2
 
 pub tell_ancestors-requires : goal.tell_ancestors-requires
 tell_ancestors-requires c =

@@ -2,7 +2,7 @@ use Rattle.std.proofs.Common.{◌≡◌, ℕ, ◌<◌, ◌≤◌, Bool, ◌&&◌
 use Rattle.std.proofs.lemmas.Bool.{lt-ltb, le-ltb}
 use Rattle.order.specs.declared.task.Task.{Task}
 use Rattle.order.specs.Records.{Sound, parent_at}
-use Rattle.order.proofs.Climbing.{reached, reached_first, reached_up, reached_last}
+use Rattle.order.proofs.Climbing.{reached, reached_up, reached_last}
 use Rattle.order.proofs.table.Table.is_ancestor.Goals as goal
 
 climbed :
@@ -18,9 +18,6 @@ climbed cells tasks sound u t b r a ht lt le e inv =
       omega arith,
       inv ∙ (reached_up cells tasks sound u t b lt le (omega arith) ∙ ap (reached cells tasks u t) (sym e)),
     )
-
-pub loop-b-init : goal.loop-b-init
-loop-b-init c = (omega arith, reached_first c.args.self.now.cells (vec_items c.args.self.now.tasks) c.args.self.now.sound c.args.u c.args.t)
 
 pub loop-b-preserved : goal.loop-b-preserved
 loop-b-preserved c =

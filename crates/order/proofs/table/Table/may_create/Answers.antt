@@ -1,64 +1,8 @@
 use Rattle.std.proofs.Common.{length, sym, ◌∙◌, arith}
-use Rattle.std.proofs.lemmas.Result.{err_from_is_err_and}
-use Rattle.std.proofs.lemmas.Bool.{le-leb, lt-leb, not-true, not-false}
+use Rattle.std.proofs.lemmas.Bool.{le-leb, not-true, not-false}
 use Rattle.order.specs.View.{view}
-use Rattle.order.proofs.Creating.{
-  parent_refused,
-  refused_runs,
-  full,
-  many,
-  bad_region,
-  unknown_kind,
-  commutative_parent,
-  not_covered,
-  all_asked,
-  room_read,
-  full_read,
-  commutative_read,
-  covers_read,
-}
+use Rattle.order.proofs.Creating.{commutative_parent, not_covered, all_asked, room_read, commutative_read, covers_read}
 use Rattle.order.proofs.table.Table.may_create.Goals as goal
-
-pub returns-in_err-task : goal.returns-in_err-task
-returns-in_err-task c =
-    let p = err_from_is_err_and c.from_residual.result c.from_residual.ensures.1 in
-    refused_runs c.args.self.now.cells (view c.args.self.now) c.args.parent c.args.accesses.now c.from_residual.result p.0 c.in_err-task.field-0.0 p.1 p.2
-    (parent_refused (view c.args.self.now) c.args.parent c.args.accesses.now c.in_err-task.field-0.0 c.in_err-task.ensures.number)
-
-pub returns-then-len-ge-MOST_TASKS : goal.returns-then-len-ge-MOST_TASKS
-returns-then-len-ge-MOST_TASKS c =
-    full (view c.args.self.now) c.args.parent c.args.accesses.now c.in_ok-task.ensures.number
-    (
-    full_read c.args.self.now.cells c.args.self.now.tasks.items c.args.self.now.sound
-    (let h = c.if-len-ge-MOST_TASKS.true in let e = c.len.ensures in let n = c.args.self.now.tasks.ok.0 in omega arith)
-    )
-
-pub returns-then-accesses-gt-MOST_ACCESSES : goal.returns-then-accesses-gt-MOST_ACCESSES
-returns-then-accesses-gt-MOST_ACCESSES c =
-    many (view c.args.self.now) c.args.parent c.args.accesses.now c.in_ok-task.ensures.number
-    (
-    room_read c.args.self.now.cells c.args.self.now.tasks.items c.args.self.now.sound
-    (let h = c.if-len-ge-MOST_TASKS.false in let e = c.len.ensures in let n = c.args.self.now.tasks.ok.0 in omega arith)
-    )
-    (lt-leb (length c.args.accesses.now) 8 c.if-accesses-gt-MOST_ACCESSES.true)
-
-pub returns-then-not-has_regions : goal.returns-then-not-has_regions
-returns-then-not-has_regions c =
-    bad_region (view c.args.self.now) c.args.parent c.args.accesses.now c.in_ok-task.ensures.number
-    (
-    room_read c.args.self.now.cells c.args.self.now.tasks.items c.args.self.now.sound
-    (let h = c.if-len-ge-MOST_TASKS.false in let e = c.len.ensures in let n = c.args.self.now.tasks.ok.0 in omega arith)
-    )
-    (le-leb (length c.args.accesses.now) 8 c.if-accesses-gt-MOST_ACCESSES.false) (sym c.has_regions.ensures ∙ c.if-not-has_regions.true)
-
-pub returns-then-not-kinds_known : goal.returns-then-not-kinds_known
-returns-then-not-kinds_known c =
-    unknown_kind (view c.args.self.now) c.args.parent c.args.accesses.now c.in_ok-task.ensures.number
-    (
-    room_read c.args.self.now.cells c.args.self.now.tasks.items c.args.self.now.sound
-    (let h = c.if-len-ge-MOST_TASKS.false in let e = c.len.ensures in let n = c.args.self.now.tasks.ok.0 in omega arith)
-    )
-    (le-leb (length c.args.accesses.now) 8 c.if-accesses-gt-MOST_ACCESSES.false) (sym c.has_regions.ensures ∙ c.if-not-has_regions.false) (sym c.kinds_known.ensures ∙ c.if-not-kinds_known.true)
 
 pub returns-then-has_commutative : goal.returns-then-has_commutative
 returns-then-has_commutative c =

@@ -1,8 +1,7 @@
-use Rattle.std.proofs.Common.{◌≡◌, ℕ, ◌+◌, ◌<◌, Bool, true, false, List, length, set, vec_items, sym, ◌∙◌, subst, arith}
+use Rattle.std.proofs.Common.{◌≡◌, ℕ, ◌+◌, ◌<◌, Bool, true, false, List, length, set, sym, ◌∙◌, subst, arith}
 use Rattle.order.specs.Questions.{accepted, start}
 use Rattle.order.specs.View.{view}
-use Rattle.order.proofs.Listing.{SoFar, listed, so_far_skip, so_far_add, start_ok}
-use Rattle.order.proofs.Viewed.{count_of}
+use Rattle.order.proofs.Listing.{SoFar, so_far_skip, so_far_add, start_ok}
 use Rattle.order.proofs.table.Table.ready.Goals as goal
 use Rattle.order.proofs.table.Table.ready.Goals.{then-is_ok, else-is_ok}
 
@@ -29,9 +28,3 @@ loop-t-preserved c =
           skipped (λ s. accepted (view c.args.self.now) (start s)) c.args.list.now c.loop-t.t c.loop-t.n c.if-is_ok.n c.loop-t.list c.if-is_ok.list c.loop-t.invariant
           w.n-is w.list-is (sym ok ∙ (sym c.is_ok.ensures.value ∙ w.if-is_ok.false))
     ]
-
-pub returns : goal.returns
-returns c =
-    listed (view c.args.self.now) c.args.list.now c.loop-t.list c.loop-t.t c.loop-t.n c.if-list-lt-MOST_TASKS.false
-    (omega (arith, count_of c.args.self.now.cells (vec_items c.args.self.now.tasks) c.args.self.now.sound.0, c.len-t-end.ensures, c.loop-t-test.false, c.loop-t.auto.t-end))
-    c.loop-t.invariant

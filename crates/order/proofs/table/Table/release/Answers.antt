@@ -1,33 +1,9 @@
-use Rattle.std.proofs.Common.{sym, refl, ◌∙◌, arith}
+use Rattle.std.proofs.Common.{sym, ◌∙◌}
 use Rattle.std.proofs.lemmas.List.{get_or-set_other}
-use Rattle.std.proofs.lemmas.Result.{err_from_is_err_and}
-use Rattle.order.specs.Questions.{release}
 use Rattle.order.specs.View.{view}
-use Rattle.order.proofs.Answering.{refused_did, before_release, region_end}
+use Rattle.order.proofs.Answering.{region_end}
 use Rattle.order.proofs.Turning.{running_within, runs_reach, sound_released, release_did}
 use Rattle.order.proofs.table.Table.release.Goals as goal
-
-pub returns-in_err-running : goal.returns-in_err-running
-returns-in_err-running c =
-    let p = err_from_is_err_and c.from_residual.result c.from_residual.ensures.1 in
-    record {
-      did =
-          refused_did (view c.args.self.now) (release c.args.t c.args.lo c.args.hi) c.from_residual.result p.0
-          c.in_err-running.field-0.0 p.1 p.2
-          (
-          before_release (view c.args.self.now) c.args.t c.args.lo c.args.hi c.in_err-running.field-0.0
-          c.in_err-running.ensures.number
-          );
-      others = λ x d n. refl;
-    }
-
-pub index_mut-requires : goal.index_mut-requires
-index_mut-requires c =
-    let h =
-    running_within c.args.self.now.cells c.args.self.now.tasks.items c.args.self.now.sound c.args.t
-    c.in_ok-running.ensures.number in
-    let n = c.args.self.now.tasks.ok.0 in
-    omega arith
 
 pub invariant_of-self : goal.invariant_of-self
 invariant_of-self c =

@@ -1,19 +1,11 @@
-use Rattle.std.proofs.Common.{refl, ◌∙◌}
+use Rattle.std.proofs.Common.{refl}
 use Rattle.std.proofs.lemmas.Result.{err_from_is_err_and}
-use Rattle.order.specs.declared.refusal.Refusal.TheVariants.{NoSuchTask}
 use Rattle.order.specs.declared.turns.Turn.TheVariants.{Resume}
 use Rattle.order.specs.Questions.{resume}
 use Rattle.order.specs.View.{view}
 use Rattle.order.proofs.Answering.{refused_did}
-use Rattle.order.proofs.Turning.{sound_turned, resume_asks, resume_did, unknown_resume}
+use Rattle.order.proofs.Turning.{sound_turned, resume_asks, resume_did}
 use Rattle.order.proofs.table.Table.resume.Goals as goal
-
-pub returns-in_err-known : goal.returns-in_err-known
-returns-in_err-known c =
-    let p = err_from_is_err_and c.from_residual.result c.from_residual.ensures.1 in
-    let h = c.in_err-known.ensures in
-    refused_did (view c.args.self.now) (resume c.args.t) c.from_residual.result p.0 NoSuchTask p.1 (p.2 ∙ h.0)
-    (unknown_resume c.args.self.now.cells c.args.self.now.tasks.items c.args.self.now.sound c.args.t h.1)
 
 pub returns-in_err-may_resume : goal.returns-in_err-may_resume
 returns-in_err-may_resume c =

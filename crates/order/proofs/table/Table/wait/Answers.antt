@@ -1,19 +1,7 @@
-use Rattle.std.proofs.Common.{refl, ◌∙◌}
-use Rattle.std.proofs.lemmas.Result.{err_from_is_err_and}
-use Rattle.order.specs.declared.refusal.Refusal.TheVariants.{NoSuchTask}
+use Rattle.std.proofs.Common.{refl}
 use Rattle.order.specs.declared.turns.Turn.TheVariants.{Wait}
-use Rattle.order.specs.Questions.{wait}
-use Rattle.order.specs.View.{view}
-use Rattle.order.proofs.Answering.{refused_did}
-use Rattle.order.proofs.Turning.{sound_turned, wait_did, unknown_running}
+use Rattle.order.proofs.Turning.{sound_turned, wait_did}
 use Rattle.order.proofs.table.Table.wait.Goals as goal
-
-pub returns-in_err-known : goal.returns-in_err-known
-returns-in_err-known c =
-    let p = err_from_is_err_and c.from_residual.result c.from_residual.ensures.1 in
-    let h = c.in_err-known.ensures in
-    refused_did (view c.args.self.now) (wait c.args.t) c.from_residual.result p.0 NoSuchTask p.1 (p.2 ∙ h.0)
-    (unknown_running c.args.self.now.cells c.args.self.now.tasks.items c.args.self.now.sound c.args.t h.1)
 
 pub invariant_of-self : goal.invariant_of-self
 invariant_of-self c = record {
