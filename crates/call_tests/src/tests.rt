@@ -10,23 +10,12 @@ use text::reader::Reader;
 use text::unread::Stop;
 
 // The number of a line's refusal, 0 where it is accepted and 1 for want of memory.
-fn answer<E>(r: Result<Written<E>, Stop>) -> u8
-where
-    E: Drop,
-{
-    match r {
+fn answer<E: Element>(heap: Global, line: &[u8]) -> u8 {
+    match read_call::<E>(heap, line) {
         Ok(_) => 0,
         Err(Stop::No(why)) => why.number(),
-        Err(Stop::Memory) => 1,
+        Err(Stop::Memory(_)) => 1,
     }
-}
-
-fn count(heap: Global, line: &[u8]) -> u8 {
-    answer(read_call::<Count>(heap, line))
-}
-
-fn span(heap: Global, line: &[u8]) -> u8 {
-    answer(read_call::<Span>(heap, line))
 }
 
 fn header(line: &[u8]) -> u16 {
@@ -39,61 +28,61 @@ fn header(line: &[u8]) -> u16 {
 #[test]
 fn ends(rt: HostRuntime) {
     let heap = rt.alloc();
-    assert_eq!(rt; count(heap, b""), 20);
-    assert_eq!(rt; count(heap, b"q"), 20);
-    assert_eq!(rt; count(heap, b"x 7"), 20);
-    assert_eq!(rt; count(heap, b"\n"), 22);
-    assert_eq!(rt; count(heap, b"q\n"), 0);
-    assert_eq!(rt; count(heap, b"Q\n"), 22);
-    assert_eq!(rt; count(heap, b"\xff\n"), 22);
+    assert_eq!(rt; answer::<Count>(heap, b""), 20);
+    assert_eq!(rt; answer::<Count>(heap, b"q"), 20);
+    assert_eq!(rt; answer::<Count>(heap, b"x 7"), 20);
+    assert_eq!(rt; answer::<Count>(heap, b"\n"), 22);
+    assert_eq!(rt; answer::<Count>(heap, b"q\n"), 0);
+    assert_eq!(rt; answer::<Count>(heap, b"Q\n"), 22);
+    assert_eq!(rt; answer::<Count>(heap, b"\xff\n"), 22);
 }
 
 #[test]
 fn numbers(rt: HostRuntime) {
     let heap = rt.alloc();
-    assert_eq!(rt; count(heap, b"s 1\n"), 0);
-    assert_eq!(rt; count(heap, b"s 0\n"), 0);
-    assert_eq!(rt; count(heap, b"s 1 \n"), 23);
-    assert_eq!(rt; count(heap, b"s  1\n"), 23);
-    assert_eq!(rt; count(heap, b"s1\n"), 23);
-    assert_eq!(rt; count(heap, b"s\t1\n"), 23);
-    assert_eq!(rt; count(heap, b"s 1\r\n"), 23);
-    assert_eq!(rt; count(heap, b"s +1\n"), 23);
-    assert_eq!(rt; count(heap, b"s -1\n"), 23);
-    assert_eq!(rt; count(heap, b"s 01\n"), 23);
-    assert_eq!(rt; count(heap, b"s 00\n"), 23);
-    assert_eq!(rt; count(heap, b"count 4\n"), 23);
+    assert_eq!(rt; answer::<Count>(heap, b"s 1\n"), 0);
+    assert_eq!(rt; answer::<Count>(heap, b"s 0\n"), 0);
+    assert_eq!(rt; answer::<Count>(heap, b"s 1 \n"), 23);
+    assert_eq!(rt; answer::<Count>(heap, b"s  1\n"), 23);
+    assert_eq!(rt; answer::<Count>(heap, b"s1\n"), 23);
+    assert_eq!(rt; answer::<Count>(heap, b"s\t1\n"), 23);
+    assert_eq!(rt; answer::<Count>(heap, b"s 1\r\n"), 23);
+    assert_eq!(rt; answer::<Count>(heap, b"s +1\n"), 23);
+    assert_eq!(rt; answer::<Count>(heap, b"s -1\n"), 23);
+    assert_eq!(rt; answer::<Count>(heap, b"s 01\n"), 23);
+    assert_eq!(rt; answer::<Count>(heap, b"s 00\n"), 23);
+    assert_eq!(rt; answer::<Count>(heap, b"count 4\n"), 23);
 }
 
 #[test]
 fn ranges(rt: HostRuntime) {
     let heap = rt.alloc();
-    assert_eq!(rt; count(heap, b"s 65535\n"), 0);
-    assert_eq!(rt; count(heap, b"s 65536\n"), 25);
-    assert_eq!(rt; count(heap, b"p 1 2 18446744073709551615\n"), 0);
-    assert_eq!(rt; count(heap, b"p 1 2 18446744073709551616\n"), 23);
-    assert_eq!(rt; count(heap, b"p 1 2 99999999999999999999\n"), 23);
-    assert_eq!(rt; count(heap, b"n 0 2 0\n"), 25);
-    assert_eq!(rt; count(heap, b"n 0 1 0\n"), 0);
-    assert_eq!(rt; count(heap, b"n 0 0 1 0 2 0\n"), 0);
-    assert_eq!(rt; count(heap, b"n 0 0 1 0 2 255\n"), 0);
-    assert_eq!(rt; count(heap, b"n 0 0 1 0 2 256\n"), 25);
+    assert_eq!(rt; answer::<Count>(heap, b"s 65535\n"), 0);
+    assert_eq!(rt; answer::<Count>(heap, b"s 65536\n"), 25);
+    assert_eq!(rt; answer::<Count>(heap, b"p 1 2 18446744073709551615\n"), 0);
+    assert_eq!(rt; answer::<Count>(heap, b"p 1 2 18446744073709551616\n"), 23);
+    assert_eq!(rt; answer::<Count>(heap, b"p 1 2 99999999999999999999\n"), 23);
+    assert_eq!(rt; answer::<Count>(heap, b"n 0 2 0\n"), 25);
+    assert_eq!(rt; answer::<Count>(heap, b"n 0 1 0\n"), 0);
+    assert_eq!(rt; answer::<Count>(heap, b"n 0 0 1 0 2 0\n"), 0);
+    assert_eq!(rt; answer::<Count>(heap, b"n 0 0 1 0 2 255\n"), 0);
+    assert_eq!(rt; answer::<Count>(heap, b"n 0 0 1 0 2 256\n"), 25);
 }
 
 #[test]
 fn counts(rt: HostRuntime) {
     let heap = rt.alloc();
-    assert_eq!(rt; count(heap, b"q 1\n"), 24);
-    assert_eq!(rt; count(heap, b"s\n"), 24);
-    assert_eq!(rt; count(heap, b"s 1 65536\n"), 24);
-    assert_eq!(rt; count(heap, b"n\n"), 24);
-    assert_eq!(rt; count(heap, b"n 0 0\n"), 24);
-    assert_eq!(rt; count(heap, b"n 0 0 1 0 2\n"), 24);
-    assert_eq!(rt; count(heap, b"n 0 0 18446744073709551615 0 2 1\n"), 24);
-    assert_eq!(rt; count(heap, b"p 1 2\n"), 24);
-    assert_eq!(rt; count(heap, b"p 1 2 3 4\n"), 24);
-    assert_eq!(rt; span(heap, b"p 1 2 3\n"), 24);
-    assert_eq!(rt; span(heap, b"p 1 2 3 4\n"), 0);
+    assert_eq!(rt; answer::<Count>(heap, b"q 1\n"), 24);
+    assert_eq!(rt; answer::<Count>(heap, b"s\n"), 24);
+    assert_eq!(rt; answer::<Count>(heap, b"s 1 65536\n"), 24);
+    assert_eq!(rt; answer::<Count>(heap, b"n\n"), 24);
+    assert_eq!(rt; answer::<Count>(heap, b"n 0 0\n"), 24);
+    assert_eq!(rt; answer::<Count>(heap, b"n 0 0 1 0 2\n"), 24);
+    assert_eq!(rt; answer::<Count>(heap, b"n 0 0 18446744073709551615 0 2 1\n"), 24);
+    assert_eq!(rt; answer::<Count>(heap, b"p 1 2\n"), 24);
+    assert_eq!(rt; answer::<Count>(heap, b"p 1 2 3 4\n"), 24);
+    assert_eq!(rt; answer::<Span>(heap, b"p 1 2 3\n"), 24);
+    assert_eq!(rt; answer::<Span>(heap, b"p 1 2 3 4\n"), 0);
 }
 
 #[test]
@@ -107,8 +96,8 @@ fn many_accesses(rt: HostRuntime) -> Result<(), Fail> {
     }
     few.extend_from_slice(b"\n")?;
     many.extend_from_slice(b" 0 1 1\n")?;
-    assert_eq!(rt; count(heap, &few), 0);
-    assert_eq!(rt; count(heap, &many), 25);
+    assert_eq!(rt; answer::<Count>(heap, &few), 0);
+    assert_eq!(rt; answer::<Count>(heap, &many), 25);
     Ok(())
 }
 

@@ -3,7 +3,7 @@ ghost use Rattle.lists.specs.Running.{AllLent};
 
 use calls::written::Written;
 use elements::element::Element;
-use engine::call::{Reply, Turn};
+use engine::call::{Call, Reply, Turn};
 use std::alloc::{AllocError, Global};
 
 // A turn for each call, with a place for its answer.
@@ -13,12 +13,11 @@ pub(crate) fn turns_of<'a, E: Element>(
 ) -> Result<Vec<Turn<'a, E>>, AllocError>
     ensures { IfOk result (λ v. AllLent calls.now (map (λ e. e.call) v.items)) }
 {
-    let mut turns = Vec::new(heap);
-    for written in calls {
-        turns.push(Turn {
-            call: written.call(),
+    calls
+        .iter()
+        .map(|written| Turn {
+            call: Call::from(written),
             answer: Ok(Reply::Done),
-        })?;
-    }
-    Ok(turns)
+        })
+        .collect(heap)
 }
