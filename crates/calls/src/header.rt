@@ -34,21 +34,21 @@ fn header_of(front: &[u8]) -> Option<Header>
     ensures { MatchOption result ((h : First) → HeaderForm front.now h → ⊥) (HeaderForm front.now) }
 {
     let (held, tail) = take_name(front)?;
-    let (cells, rest) = take_number(tail)?;
-    if !rest.is_empty() || cells < 1 || cells > MOST_CELLS {
-        return None;
+    match take_number(tail)? {
+        (cells @ 1..=MOST_CELLS, []) => Some(Header {
+            held,
+            cells: cells as u16,
+        }),
+        _ => None,
     }
-    Some(Header {
-        held,
-        cells: cells as u16,
-    })
 }
 
 // The word that the bytes begin with, and what follows it.
 fn take_name(bytes: &[u8]) -> Option<(Held, &[u8])>
     ensures { MatchOption result ((k : Kind) (tail : List ℕ) → bytes.now ≢ name_of k ++ tail) (λ p. bytes.now ≡ name_of p.0 ++ p.1.now) }
 {
-    let count = bytes.strip_prefix(b"count");
-    let count = count.map(|tail| (Held::Count, tail));
-    count.or_else(|| Some((Held::Span, bytes.strip_prefix(b"span")?)))
+    bytes
+        .strip_prefix(b"count")
+        .map(|tail| (Held::Count, tail))
+        .or_else(|| Some((Held::Span, bytes.strip_prefix(b"span")?)))
 }

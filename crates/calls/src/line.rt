@@ -65,13 +65,11 @@ fn written<E: Element>(heap: Global, letter: Letter, numbers: &[u64]) -> Result<
             cell: fit(*cell)?,
             value: value(rest)?,
         }),
-        (Letter::Update, [task, cell, by @ ..]) if by.len() == E::WIDTH => Ok(
-            Written::Update {
-                task: fit(*task)?,
-                cell: fit(*cell)?,
-                amount: value(by)?,
-            },
-        ),
+        (Letter::Update, [task, cell, by @ ..]) if by.len() == E::WIDTH => Ok(Written::Update {
+            task: fit(*task)?,
+            cell: fit(*cell)?,
+            amount: value(by)?,
+        }),
         (Letter::Look, [cell]) => Ok(Written::Look { cell: fit(*cell)? }),
         (Letter::Ready, []) => Ok(Written::Ready),
         _ => Err(Stop::No(Unread::WrongCount)),

@@ -1,12 +1,12 @@
 -- Steps of a search for a byte, and what a cut at its place leaves.
-use Rattle.std.proofs.Common.{◌≡◌, ℕ, zero, suc, ◌+◌, ◌<◌, ◌≤◌, Bool, true, false, cond, eqb, List, [], ◌∷◌, ◌++◌, length, get_or, take, drop, position, not, ltb, Some, None, Option, sym, refl, ap, ◌∙◌, subst, arith, eqb-true}
+use Rattle.std.proofs.Common.{◌≡◌, ℕ, zero, suc, ◌+◌, ◌<◌, ◌≤◌, Bool, true, false, cond, eqb, List, [], ◌∷◌, ◌++◌, length, get_or, min, take, drop, position, not, ltb, Some, None, Option, sym, refl, ap, ◌∙◌, subst, arith, eqb-true}
 use Rattle.std.specs.Prelude.{unwrap_or}
 use Rattle.std.specs.List.{position_or_len}
 use Rattle.std.proofs.lemmas.List.Sums.{prefix_len-le-length}
 use Rattle.std.proofs.Math.Numerals.{one-add}
 use Rattle.std.proofs.lemmas.List.Recursion.{is_position_or_len}
 use borrow.Author.Tests.{eqb-false}
-use Rattle.std.proofs.lemmas.List.{take-append-drop, take_all, drop_all}
+use Rattle.std.proofs.lemmas.List.{take-append-drop, take_min, drop_min}
 use Rattle.text.specs.Lines.{up_to, line_of, after_line, Cut}
 
 place_or : (k n : ℕ) → k ≤ n → unwrap_or (cond (ltb k n) (Some k) None) n ≡ k
@@ -58,13 +58,8 @@ pub cut_line : (bs : List ℕ) → Cut bs (line_of bs) (after_line bs)
 cut_line bs = record { whole = take-append-drop (suc (up_to 10 bs)) bs; inner = inner bs; ends = ended bs }
 
 -- the same at a line's length as it is found
-pub cut_at : (bs line rest : List ℕ) (n : ℕ) → n ≡ suc (up_to 10 bs) → line ≡ take n bs → rest ≡ drop n bs → (line ≡ line_of bs) × (rest ≡ after_line bs)
-cut_at bs line rest n e p q = (p ∙ ap (λ k. take k bs) e, q ∙ ap (λ k. drop k bs) e)
-
-pub cut_end : (bs line rest : List ℕ) (n : ℕ) → length bs ≤ n → n ≡ up_to 10 bs → line ≡ take n bs → rest ≡ drop n bs → (line ≡ line_of bs) × (rest ≡ after_line bs)
-cut_end bs line rest n past e p q =
-    let later : length bs ≤ suc (up_to 10 bs) = omega arith in
-    (p ∙ take_all n bs past ∙ sym (take_all (suc (up_to 10 bs)) bs later), q ∙ drop_all n bs past ∙ sym (drop_all (suc (up_to 10 bs)) bs later))
-
-pub cut_same : (bs line rest : List ℕ) → (line ≡ line_of bs) × (rest ≡ after_line bs) → Cut bs line rest
-cut_same bs line rest e = rw e.0 (rw e.1 (cut_line bs))
+pub cut_at : (bs line rest : List ℕ) (n : ℕ) → n ≡ min (suc (up_to 10 bs)) (length bs) → line ≡ take n bs → rest ≡ drop n bs → (line ≡ line_of bs) × (rest ≡ after_line bs) × Cut bs line rest
+cut_at bs line rest n e p q =
+    let front : line ≡ line_of bs = p ∙ ap (λ k. take k bs) e ∙ take_min (suc (up_to 10 bs)) bs in
+    let back : rest ≡ after_line bs = q ∙ ap (λ k. drop k bs) e ∙ drop_min (suc (up_to 10 bs)) bs in
+    (front, back, rw front (rw back (cut_line bs)))

@@ -35,8 +35,7 @@ impl<'a> Reader<'a> {
         ensures cut { Cut self.entry.rest.now result.0.bytes.now result.1.rest.now }
     {
         let end = find(self.rest, b'\n');
-        let length = if end < self.rest.len() { end + 1 } else { end };
-        let (line, rest) = self.rest.split_at(length);
+        let (line, rest) = self.rest.split_at((end + 1).min(self.rest.len()));
         (Line { bytes: line }, Reader { rest })
     }
 }
