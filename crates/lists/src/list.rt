@@ -1,5 +1,5 @@
-ghost use Rattle.std.specs.Prelude.{◌≤◌, length, IfOk, string_bytes};
-ghost use Rattle.lists.specs.Printing.{AnswersBy, BodyBy, BodyOf, Printed, TakenBy};
+ghost use Rattle.std.specs.Prelude.{◌≡◌, ◌≤◌, ◌++◌, length, IfOk, string_bytes, OnOk};
+ghost use Rattle.lists.specs.Printing.{AnswersBy, BodyBy, BodyOf, Printed, TakenBy, ending};
 
 use crate::listing::BadLine;
 use crate::piled::run_piled;
@@ -60,10 +60,18 @@ fn run_calls<E: Element>(heap: Global, cells: u16, body: Reader<'_>) -> Result<S
 {
     let listing = read_calls::<E>(heap, body)?;
     let mut out = answer_calls(heap, cells, &listing.calls)?;
-    if let Some(bad) = listing.end {
-        write!(out, "{bad}")?;
-    }
+    push_end(&mut out, listing.end)?;
     Ok(out)
+}
+
+// Ends the output, with the line that is not read where there is one.
+fn push_end(out: &mut String, end: Option<BadLine>) -> Result<(), AllocError>
+    ensures { OnOk result (string_bytes out.new ≡ string_bytes out.old ++ ending end) }
+{
+    match end {
+        Some(bad) => write!(out, "{bad}"),
+        None => Ok(()),
+    }
 }
 
 // The lines of the calls' answers.

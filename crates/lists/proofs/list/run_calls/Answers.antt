@@ -1,8 +1,7 @@
-use Rattle.std.proofs.Common.{vec_items, string_bytes, subst, rules}
+use Rattle.std.proofs.Common.{vec_items, string_bytes, subst}
 use Rattle.lists.specs.Printing.{AnswersBy}
 use Rattle.lists.proofs.Formed.{form_read}
 use Rattle.lists.proofs.list.run_calls.Goals as goal
-use Rattle.lists.proofs.list.run_calls.Goals.{in-Some+in_ok-write, in_default}
 
 pub returns : goal.returns
 returns g c =
@@ -13,8 +12,5 @@ returns g c =
       read = c.in_ok-listing.ensures;
       form = form_read g.E.Element.numbers g.E.Element.WIDTH g.E.Element.made 2 _ _ _ c.in_ok-listing.ensures;
       run = subst (λ ws. AnswersBy g.E.Element c.args.cells ws (string_bytes c.in_ok-out.out)) c.deref.ensures.value c.in_ok-out.ensures;
-      whole = elim c.match-listing.branch [
-        | in-Some+in_ok-write w ↦ search rules
-        | in_default w ↦ search rules
-      ];
+      whole = c.in_ok-push_end.ensures;
     }
