@@ -1,8 +1,7 @@
 -- A list of the tasks that may start, made by looking at one task after the other.
 -- Assumes nothing.
-use Rattle.std.proofs.Common.{◌≡◌, ℕ, suc, ◌+◌, ◌<◌, ◌≤◌, Bool, true, false, cond, ◌&&◌, eqb, ltb, ◌⊎◌, List, [], ◌∷◌, ◌++◌, length, take, drop, set, is_ok, Ok, Err, Result, sym, refl, ap, ◌∙◌, subst, inl, inr, add-one, arith}
+use Rattle.std.proofs.Common.{◌≡◌, ℕ, suc, ◌+◌, ◌<◌, ◌≤◌, Bool, true, false, cond, ◌&&◌, eqb, ltb, ◌⊎◌, List, [], ◌∷◌, ◌++◌, length, is_ok, Ok, Err, Result, sym, refl, ap, ◌∙◌, subst, inl, inr, add-one, arith, length-append}
 use Rattle.std.specs.List.{AllByRecursion as All}
-use Rattle.std.proofs.lemmas.List.{take_more_set, drop-set-lt, drop-drop}
 use Rattle.std.proofs.lemmas.Bool.{and_right, cases_eq, cases_lt, cond-true, cond-false, eq-eqb, ne_eqb, lt-ltb, le-ltb}
 use Rattle.order.specs.declared.refusal.Refusal.{Refusal}
 use Rattle.order.specs.declared.refusal.Refusal.TheVariants.{NoSuchTask, WrongState, EarlierConflict, CommutativeBusy}
@@ -53,44 +52,37 @@ more_below s t n = go (cases_lt s t)
     go (inl l) = lt-ltb s (suc t) (omega arith) ∙ sym (lt-ltb s t l)
     go (inr l) = le-ltb s (suc t) (omega arith) ∙ sym (le-ltb s t l)
 
--- the numbers below t that pass the test stand in the first n places, each once, and the other places are as before
-abbrev pub SoFar : (ℕ → Bool) → List ℕ → ℕ → ℕ → List ℕ → Type 0
-SoFar f before t n after =
-    (n ≤ t)
-    × (n ≡ tally t f)
-    × ((s : ℕ) → times s (take n after) ≡ cond (ltb s t && f s) 1 0)
-    × (drop n after ≡ drop n before)
+-- the numbers below t that pass the test are these, each once
+abbrev pub SoFar : (ℕ → Bool) → ℕ → List ℕ → Type 0
+SoFar f t xs = (length xs ≤ t) × (length xs ≡ tally t f) × ((s : ℕ) → times s xs ≡ cond (ltb s t && f s) 1 0)
 
-module _ (f : ℕ → Bool) (before : List ℕ) where
-  module _ (t n : ℕ) (after : List ℕ) (so : SoFar f before t n after) where
-    pub so_far_skip : f t ≡ false → SoFar f before (t + 1) n after
-    so_far_skip e =
-        subst (λ (x : ℕ). SoFar f before x n after) (sym (add-one t))
-        ((let le = so.0 in omega arith, so.1 ∙ sym (cond-false (f t) (suc (tally t f)) (tally t f) e), λ s. so.2 s ∙ ap (λ (b : Bool). cond b 1 0) (same s (cases_eq s t)), so.3))
-      where
-        same : (s : ℕ) → (s ≡ t) ⊎ (s ≡ t → ⊥) → (ltb s t && f s) ≡ (ltb s (suc t) && f s)
-        same s (inl q) =
-            ap (λ (b : Bool). ltb s t && b) (ap f q ∙ e) ∙ (and_right (ltb s t) false refl ∙ sym (ap (λ (b : Bool). ltb s (suc t) && b) (ap f q ∙ e) ∙ and_right (ltb s (suc t)) false refl))
-        same s (inr q) = ap (λ (b : Bool). b && f s) (sym (more_below s t q))
+module _ (f : ℕ → Bool) (t : ℕ) (xs : List ℕ) (so : SoFar f t xs) where
+  pub so_far_skip : f t ≡ false → SoFar f (t + 1) xs
+  so_far_skip e =
+      subst (λ (x : ℕ). SoFar f x xs) (sym (add-one t))
+      ((let le = so.0 in omega arith, so.1 ∙ sym (cond-false (f t) (suc (tally t f)) (tally t f) e), λ s. so.2 s ∙ ap (λ (b : Bool). cond b 1 0) (same s (cases_eq s t))))
+    where
+      same : (s : ℕ) → (s ≡ t) ⊎ (s ≡ t → ⊥) → (ltb s t && f s) ≡ (ltb s (suc t) && f s)
+      same s (inl q) =
+          ap (λ (b : Bool). ltb s t && b) (ap f q ∙ e) ∙ (and_right (ltb s t) false refl ∙ sym (ap (λ (b : Bool). ltb s (suc t) && b) (ap f q ∙ e) ∙ and_right (ltb s (suc t)) false refl))
+      same s (inr q) = ap (λ (b : Bool). b && f s) (sym (more_below s t q))
 
-    pub so_far_add : f t ≡ true → n < length after → SoFar f before (t + 1) (n + 1) (set after n t)
-    so_far_add e room =
-        subst (λ (x : ℕ). SoFar f before x (n + 1) (set after n t)) (sym (add-one t))
-        ((let le = so.0 in omega arith, counted, λ s. ap (times s) (take_more_set after n t room) ∙ (times_push s t (take n after) ∙ (ap (λ (m : ℕ). m + cond (eqb t s) 1 0) (so.2 s) ∙ once s (cases_eq s t))), rest))
-      where
-        counted : n + 1 ≡ cond (f t) (suc (tally t f)) (tally t f)
-        counted = add-one n ∙ (ap suc so.1 ∙ sym (cond-true (f t) (suc (tally t f)) (tally t f) e))
+  pub so_far_add : f t ≡ true → SoFar f (t + 1) (xs ++ t ∷ [])
+  so_far_add e =
+      subst (λ (x : ℕ). SoFar f x (xs ++ t ∷ [])) (sym (add-one t))
+      ((let le = so.0 in rw longer (omega arith), counted, λ s. times_push s t xs ∙ (ap (λ (m : ℕ). m + cond (eqb t s) 1 0) (so.2 s) ∙ once s (cases_eq s t))))
+    where
+      longer : length (xs ++ t ∷ []) ≡ length xs + 1
+      longer = length-append xs (t ∷ [])
 
-        once : (s : ℕ) → (s ≡ t) ⊎ (s ≡ t → ⊥) → cond (ltb s t && f s) 1 0 + cond (eqb t s) 1 0 ≡ cond (ltb s (suc t) && f s) 1 0
-        once s (inl q) = rw (le-ltb s t (omega arith), eq-eqb t s (sym q), lt-ltb s (suc t) (omega arith), ap f q ∙ e) refl
-        once s (inr q) =
-            ap (λ (m : ℕ). cond (ltb s t && f s) 1 0 + m) (cond-false (eqb t s) 1 0 (ne_eqb t s (λ p. q (sym p))))
-            ∙ (plus_none ∙ ap (λ (b : Bool). cond (b && f s) 1 0) (sym (more_below s t q)))
-          where
-            plus_none : cond (ltb s t && f s) 1 0 + 0 ≡ cond (ltb s t && f s) 1 0
-            plus_none = omega arith
+      counted : length (xs ++ t ∷ []) ≡ cond (f t) (suc (tally t f)) (tally t f)
+      counted = longer ∙ (add-one (length xs) ∙ (ap suc so.1 ∙ sym (cond-true (f t) (suc (tally t f)) (tally t f) e)))
 
-        rest : drop (n + 1) (set after n t) ≡ drop (n + 1) before
-        rest =
-            drop-set-lt (n + 1) after n t (omega arith)
-            ∙ (sym (drop-drop 1 n after) ∙ (ap (λ (l : List ℕ). drop 1 l) so.3 ∙ drop-drop 1 n before))
+      once : (s : ℕ) → (s ≡ t) ⊎ (s ≡ t → ⊥) → cond (ltb s t && f s) 1 0 + cond (eqb t s) 1 0 ≡ cond (ltb s (suc t) && f s) 1 0
+      once s (inl q) = rw (le-ltb s t (omega arith), eq-eqb t s (sym q), lt-ltb s (suc t) (omega arith), ap f q ∙ e) refl
+      once s (inr q) =
+          ap (λ (m : ℕ). cond (ltb s t && f s) 1 0 + m) (cond-false (eqb t s) 1 0 (ne_eqb t s (λ p. q (sym p))))
+          ∙ (plus_none ∙ ap (λ (b : Bool). cond (b && f s) 1 0) (sym (more_below s t q)))
+        where
+          plus_none : cond (ltb s t && f s) 1 0 + 0 ≡ cond (ltb s t && f s) 1 0
+          plus_none = omega arith

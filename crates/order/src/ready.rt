@@ -5,6 +5,7 @@ ghost use Rattle.order.specs.View.{view};
 use crate::refusal::Refusal;
 use crate::room::MOST_TASKS;
 use crate::table::Table;
+use arrayvec::ArrayVec;
 
 impl Table {
     // Lists the tasks that may start now and says how many they are.
@@ -14,14 +15,14 @@ impl Table {
         if list.len() < MOST_TASKS {
             return Err(Refusal::ShortList);
         }
-        // Counted by hand: the count is the answer too, and after a zip over `iter_mut` a proof knows nothing of the places.
-        let mut n = 0;
+        let mut startable = ArrayVec::<u16, MOST_TASKS>::new();
         for t in 0..self.len() {
             if self.may_start(t).is_ok() {
-                list[n] = t;
-                n += 1;
+                startable.push(t);
             }
         }
-        Ok(n)
+        let count = startable.len();
+        list[..count].copy_from_slice(startable.as_slice());
+        Ok(count)
     }
 }

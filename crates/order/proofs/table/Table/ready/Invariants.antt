@@ -4,4 +4,4 @@ use Rattle.order.proofs.Listing.{SoFar}
 use Rattle.order.proofs.table.Table.ready.Given as goal
 
 abbrev pub invariant-loop-t : goal.invariant-loop-t
-invariant-loop-t l = SoFar (λ s. accepted (view l.self) (start s)) l.initial.list l.t l.n l.list
+invariant-loop-t l = SoFar (λ s. accepted (view l.self) (start s)) l.t l.startable.items
