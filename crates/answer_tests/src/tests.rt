@@ -19,14 +19,6 @@ fn refused(why: Refusal) -> Result<Reply<Count>, Refusal> {
     Err(why)
 }
 
-// A turn that has not been taken: its place for the answer has any answer.
-fn ask<'a>(call: Call<'a, Count>) -> Turn<'a, Count> {
-    Turn {
-        call,
-        answer: Ok(Reply::Done),
-    }
-}
-
 #[test]
 fn replies(rt: HostRuntime) -> Result<(), Fail> {
     let mut out = String::new(rt.alloc());
@@ -97,21 +89,21 @@ fn answers_of_a_run(rt: HostRuntime) -> Result<(), Fail> {
         code: 3,
     }];
     let mut turns = [
-        ask(Call::Create {
+        Turn::from(Call::Create {
             parent: 0,
             waits: false,
             accesses: &accesses,
         }),
-        ask(Call::Ready { places: 64 }),
-        ask(Call::Start { task: 1 }),
-        ask(Call::Update {
+        Turn::from(Call::Ready { places: 64 }),
+        Turn::from(Call::Start { task: 1 }),
+        Turn::from(Call::Update {
             task: 1,
             cell: 1,
             amount: Count { value: 12 },
         }),
-        ask(Call::Read { task: 1, cell: 1 }),
-        ask(Call::Look { cell: 2 }),
-        ask(Call::Start { task: 2 }),
+        Turn::from(Call::Read { task: 1, cell: 1 }),
+        Turn::from(Call::Look { cell: 2 }),
+        Turn::from(Call::Start { task: 2 }),
     ];
     let mut cells = [Count { value: 4 }; 2];
     run(

@@ -2,6 +2,7 @@ ghost use Rattle.calls.specs.Lent.{Lent};
 
 use crate::written::Written;
 use engine::call::Call;
+use order::room::MOST_TASKS;
 
 // The call for an engine, with the accesses lent to it.
 impl<'a, E: Copy> From<&'a Written<E>> for Call<'a, E> {
@@ -27,7 +28,7 @@ impl<'a, E: Copy> From<&'a Written<E>> for Call<'a, E> {
             Written::Write { task, cell, value } => Call::Write { task, cell, value },
             Written::Update { task, cell, amount } => Call::Update { task, cell, amount },
             Written::Look { cell } => Call::Look { cell },
-            Written::Ready => Call::Ready { places: 64 },
+            Written::Ready => Call::Ready { places: MOST_TASKS },
         }
     }
 }

@@ -109,6 +109,10 @@ abbrev pub entry_of : {V : Type 0} → V → Call V → Result (Reply V) Refusal
 entry_of rest k (Ok r) = program.took (shape k) (given rest k) (reply_of r)
 entry_of rest k (Err why) = program.refused (shape k) (was_open why) (number_of why)
 
+-- the calls of some turns
+abbrev pub calls_of : {V : Type 0} → List (Turn V) → List (Call V)
+calls_of turns = map (λ e. e.call) turns
+
 -- the history of a list of turns: entry by entry each call and its answer
 abbrev pub history : {V : Type 0} → V → List (Turn V) → List (Entry V)
 history rest turns = map (λ e. entry_of rest e.call e.answer) turns

@@ -1,8 +1,9 @@
 -- What a text prints that is given as a list of calls.
 -- Assumes nothing.
-use Rattle.std.specs.Prelude.{◌≡◌, ℕ, ◌<◌, ◌≤◌, List, [], ◌∷◌, ◌++◌, map, length, Some, None, codes, Option}
+use Rattle.std.specs.Prelude.{◌≡◌, ℕ, ◌<◌, ◌≤◌, List, [], ◌∷◌, ◌++◌, length, Some, None, codes, Option}
 use Rattle.elements.specs.declared.element.Element as element
 use Rattle.elements.specs.Element.{count_of, count_made, count_updated, span_made, span_rest, span_updated}
+use Rattle.engine.specs.Run.{calls_of}
 use Rattle.engine.specs.declared.call.Turn.{Turn}
 use Rattle.calls.specs.declared.header.Header.{Header}
 use Rattle.calls.specs.declared.header.Held.{Held}
@@ -34,14 +35,14 @@ ending (Some bad) = bad_line bad.line bad.why
 
 -- the turns were taken on a new pile of n cells, with the calls that they had before, and the output is the lines of their answers
 pub record Taken {V : Type 0} (numbers : V → List ℕ) (rest : V) (updated : V → V → V) (n : ℕ) (before turns : List (Turn V)) (out : List ℕ) : Type 0 where
-  pub calls : map (λ e. e.call) turns ≡ map (λ e. e.call) before
+  pub calls : calls_of turns ≡ calls_of before
   pub ran : RanPiled rest updated n turns
   pub lines : out ≡ lines_of numbers turns
 
 -- the output is the lines of the answers of a run of exactly these calls, on a new pile of n cells
 pub record Answers {V : Type 0} (numbers : V → List ℕ) (rest : V) (updated : V → V → V) (n : ℕ) (calls : List (Written V)) (out : List ℕ) : Type 0 where
   pub turns : List (Turn V)
-  pub lent : AllLent calls (map (λ e. e.call) turns)
+  pub lent : AllLent calls (calls_of turns)
   pub ran : RanPiled rest updated n turns
   pub lines : out ≡ lines_of numbers turns
 

@@ -1,6 +1,7 @@
 -- The calls that the lines of a text write, up to the first line that is not read.
 -- Assumes nothing.
 use Rattle.std.specs.Prelude.{◌≡◌, ℕ, ◌+◌, List, [], ◌∷◌, ◌++◌, Some, None, Option, ◌≢◌}
+use Rattle.elements.specs.declared.element.Element as element
 use Rattle.calls.specs.declared.written.Written.{Written}
 use Rattle.calls.specs.Calls.{letter_of, numbers_of, writing, Right, CallRead, NoCall}
 use Rattle.text.specs.Lines.{line_of, after_line}
@@ -31,3 +32,7 @@ module _ {E : Type 0} (value_numbers : E → List ℕ) (width : ℕ) (made : Lis
       (text ≢ []) × (bad.line ≡ n) × NoCall value_numbers width made (line_of text) bad.why
   CallsRead n text (w ∷ ws) end =
       (text ≢ []) × CallRead value_numbers width made (line_of text) w × CallsRead (n + 1) (after_line text) ws end
+
+-- the same, where the element says how values are written and made
+abbrev pub CallsReadBy : {E : Type 0} → element.Ghosts E → ℕ → List ℕ → List (Written E) → Option BadLine → Type 0
+CallsReadBy e n text ws end = CallsRead e.numbers e.WIDTH e.made n text ws end

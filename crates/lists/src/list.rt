@@ -1,4 +1,4 @@
-ghost use Rattle.std.specs.Prelude.{◌≡◌, ◌≤◌, ◌++◌, length, IfOk, string_bytes, OnOk};
+ghost use Rattle.std.specs.Prelude.{◌≡◌, ◌++◌, IfOk, string_bytes, OnOk};
 ghost use Rattle.lists.specs.Printing.{AnswersBy, BodyBy, BodyOf, Printed, TakenBy, ending};
 
 use crate::listing::BadLine;
@@ -44,7 +44,6 @@ pub fn run_list(heap: Global, text: &[u8]) -> Result<String, AllocError>
 
 // What the lines after the header print.
 fn run_body(heap: Global, header: Header, body: Reader<'_>) -> Result<String, AllocError>
-    requires { length body.rest.now ≤ 32768 }
     ensures { IfOk result (λ out. BodyOf header body.entry.rest.now (string_bytes out)) }
 {
     match header.held {
@@ -55,7 +54,6 @@ fn run_body(heap: Global, header: Header, body: Reader<'_>) -> Result<String, Al
 
 // The same, where cells hold elements of this type.
 fn run_calls<E: Element>(heap: Global, cells: u16, body: Reader<'_>) -> Result<String, AllocError>
-    requires { length body.rest.now ≤ 32768 }
     ensures { IfOk result (λ out. BodyBy E.Element cells body.entry.rest.now (string_bytes out)) }
 {
     let listing = read_calls::<E>(heap, body)?;

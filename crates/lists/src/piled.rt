@@ -1,4 +1,5 @@
-ghost use Rattle.std.specs.Prelude.{◌≡◌, ◌≤◌, map, length};
+ghost use Rattle.std.specs.Prelude.{◌≡◌, ◌≤◌, length};
+ghost use Rattle.engine.specs.Run.{calls_of};
 ghost use Rattle.lists.specs.Running.{RanPiledBy};
 
 use elements::element::Element;
@@ -22,7 +23,7 @@ pub(crate) fn run_piled<E: Element>(
 )
     requires { (length heads.old ≤ 65535) × (length records.old ≡ 64) }
     ensures ran { RanPiledBy E.Element (length heads.old) turns.new }
-    ensures calls { map (λ e. e.call) turns.new ≡ map (λ e. e.call) turns.old }
+    ensures calls { calls_of turns.new ≡ calls_of turns.old }
 {
     let mut chain = ChainStore::new(heads, records);
     let pile = Allowance::new(WriteBehind::new(&mut chain), ALLOWANCE);

@@ -1,5 +1,5 @@
 ghost use Rattle.std.specs.Prelude.{◌≤◌, length, IfOk};
-ghost use Rattle.lists.specs.Reading.{CallsRead};
+ghost use Rattle.lists.specs.Reading.{CallsReadBy};
 
 use crate::listing::{BadLine, Listing};
 use calls::line::read_call;
@@ -13,7 +13,7 @@ pub(crate) fn read_calls<E: Element>(
     heap: Global,
     reader: Reader<'_>,
 ) -> Result<Listing<E>, AllocError>
-    ensures { IfOk result (λ l. CallsRead E.Element.numbers E.Element.WIDTH E.Element.made 2 reader.entry.rest.now l.calls.items l.end) }
+    ensures { IfOk result (λ l. CallsReadBy E.Element 2 reader.entry.rest.now l.calls.items l.end) }
 {
     let mut calls = Vec::new(heap);
     let mut left = reader;

@@ -1,9 +1,10 @@
 // Whole lives of tasks on engines over a flat store of counts, for the benchmark to time.
 #![tactic(auto)]
 
-ghost use Rattle.std.specs.Prelude.{◌≡◌, ◌+◌, ◌*◌, ◌<◌, ◌≤◌, true, ◌⊎◌, length, is_ok, IfOk, IfSome, IsSome, IsTrue, ◌↔◌, if◌then◌else◌, None, Ok, slice_index_or, slice_set};
+ghost use Rattle.std.specs.Prelude.{◌≡◌, ◌+◌, ◌*◌, ◌<◌, ◌≤◌, true, ◌⊎◌, length, is_ok, IfOk, IfSome, IsSome, IsTrue, ◌↔◌, if◌then◌else◌, None, Ok, slice_set};
 ghost use Rattle.order.specs.Tasks.{count};
 ghost use Rattle.order.specs.View.{root, view};
+ghost use Rattle.stores.specs.Members.{updated_at};
 ghost use Rattle.lives.specs.Crowd.{Calm, born, fits};
 
 use elements::count::Count;
@@ -11,14 +12,10 @@ use elements::element::Element;
 use engine::engine::Engine;
 use engine::refusal::Refusal;
 use kinds::access::Access;
-use order::room::Room;
+use order::room::{MOST_TASKS, Room};
 use std::alloc::{AllocError, Global};
 use stores::flat::FlatStore;
 use stores::store::Store;
-
-const INOUT: u8 = 3;
-
-const MOST_TASKS: u32 = 64;
 
 // Task 0 creates a task that will use the cell.
 fn create_task<S: Store>(engine: &mut Engine<S>, cell: u16) -> Result<u16, Refusal>
@@ -30,7 +27,7 @@ fn create_task<S: Store>(engine: &mut Engine<S>, cell: u16) -> Result<u16, Refus
     let access = [Access {
         lo: cell,
         hi: cell + 1,
-        code: INOUT,
+        code: Access::INOUT,
     }];
     engine.create(0, false, &access)
 }
@@ -41,8 +38,8 @@ fn live<S: Store>(engine: &mut Engine<S>, cell: u16, amount: S::E) -> Result<(),
     ensures accepted { is_ok result ≡ true }
     ensures calm { Calm cell 0 (view engine.new.table) }
     ensures one { count (view engine.new.table) ≡ count (view engine.old.table) + 1 }
-    ensures cells { S.Store.cells engine.new.store ≡ slice_set (S.Store.cells engine.old.store) cell (S.E.Element.updated (slice_index_or (S.Store.cells engine.old.store) cell S.E.Element.rest) amount) }
-    ensures took { S.Store.took engine.old.store cell (S.E.Element.updated (slice_index_or (S.Store.cells engine.old.store) cell S.E.Element.rest) amount) engine.new.store }
+    ensures cells { S.Store.cells engine.new.store ≡ slice_set (S.Store.cells engine.old.store) cell (updated_at S.Store S.E.Element engine.old.store cell amount) }
+    ensures took { S.Store.took engine.old.store cell (updated_at S.Store S.E.Element engine.old.store cell amount) engine.new.store }
 {
     let task = create_task(engine, cell)?;
     engine.start(task)?;
@@ -66,7 +63,7 @@ impl Crowd {
         ensures none { IsSome result ↔ IsTrue (fits cells alive lives) }
         ensures some { IfSome result (λ c. (c.cell + 1 ≡ cells) × (c.lives ≡ lives)) }
     {
-        if cells < 2 || alive < 1 || u32::from(alive) + u32::from(lives) > MOST_TASKS {
+        if cells < 2 || alive < 1 || usize::from(alive) + usize::from(lives) > MOST_TASKS {
             return None;
         }
         Some(Crowd {

@@ -4,7 +4,7 @@ use crate::task::Task;
 use std::alloc::{AllocError, Global};
 
 // The tasks that a table has room for, and the places that a list of ready tasks needs.
-pub(crate) const MOST_TASKS: usize = 64;
+pub const MOST_TASKS: usize = 64;
 
 // The memory of one table, all that it will ever need.
 #[derive(Drop)]

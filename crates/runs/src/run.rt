@@ -1,17 +1,15 @@
-ghost use Rattle.std.specs.Prelude.{◌≡◌, map, length};
+ghost use Rattle.std.specs.Prelude.{◌≡◌, length};
 ghost use Rattle.order.specs.Tasks.{new};
 ghost use Rattle.order.specs.View.{view};
 ghost use Rattle.engine.specs.declared.call.Call.TheVariants.{Ready};
 ghost use Rattle.engine.specs.Engines.{Keeps, Led, LedNew};
+ghost use Rattle.engine.specs.Run.{calls_of};
 
 use engine::call::{Call, Reply, Turn};
 use engine::engine::Engine;
 use engine::refusal::Refusal;
-use order::room::Room;
+use order::room::{MOST_TASKS, Room};
 use stores::store::Store;
-
-// The tasks that there can be.
-const MOST_TASKS: usize = 64;
 
 // The tasks that are ready, in a list of so many places; 64 are enough for any number of them.
 fn list_ready<S: Store>(engine: &Engine<S>, places: usize) -> Result<Reply<S::E>, Refusal>
@@ -78,7 +76,7 @@ fn take_turn<S: Store>(engine: &mut Engine<S>, turn: &mut Turn<S::E>)
 fn run_turns<S: Store>(engine: &mut Engine<S>, turns: &mut [Turn<S::E>])
     requires { view engine.old.table ≡ new (length (S.Store.cells engine.old.store)) }
     ensures ran { LedNew S.Store S.E.Element engine.old.store turns.new engine.new }
-    ensures calls { map (λ e. e.call) turns.new ≡ map (λ e. e.call) turns.old }
+    ensures calls { calls_of turns.new ≡ calls_of turns.old }
     ensures promised { Keeps S.Store S.E.Element engine.old.store turns.new engine.new }
 {
     for turn in turns.iter_mut() {
@@ -90,7 +88,7 @@ fn run_turns<S: Store>(engine: &mut Engine<S>, turns: &mut [Turn<S::E>])
 pub fn run<S: Store>(room: Room, store: S, turns: &mut [Turn<S::E>]) -> Engine<S>
     ensures ran { LedNew S.Store S.E.Element store turns.new result }
     ensures promised { Keeps S.Store S.E.Element store turns.new result }
-    ensures calls { map (λ e. e.call) turns.new ≡ map (λ e. e.call) turns.old }
+    ensures calls { calls_of turns.new ≡ calls_of turns.old }
 {
     let mut engine = Engine::new(room, store);
     run_turns(&mut engine, turns);
