@@ -1,4 +1,5 @@
-ghost use Rattle.std.specs.Prelude.{◌≡◌, Some, None, MatchResult};
+ghost use Rattle.std.specs.Prelude.{◌≡◌, ◌++◌, Some, None, MatchResult, codes};
+ghost use Rattle.std.specs.Fmt.{decimal};
 ghost use Rattle.kinds.specs.Kinds.{combine, combine_held, holding_of, Lawful};
 
 use crate::access::Access;
@@ -18,6 +19,8 @@ pub struct Holding {
 pub struct UnknownCode(pub u8);
 
 impl fmt::Display for UnknownCode {
+    ghost output = { λ e. Some (codes "no kind of access has code " ++ decimal e.0) };
+
     fn fmt<W: fmt::Write>(&self, f: &mut fmt::Formatter<W>) -> fmt::Result {
         write!(f, "no kind of access has code {}", self.0)
     }
@@ -49,6 +52,7 @@ impl TryFrom<u8> for Holding {
 
 impl Holding {
     // What two accesses of one task to the same cell come to.
+    #[tactic(auto, using(crate::proofs::Combining::combine_lawful, crate::proofs::Combining::combine_held_lawful), unfolding(crate::specs::Kinds::combine))]
     pub fn combine(self, other: Holding) -> Holding
         ensures value { result ≡ combine self other }
         ensures laws { Lawful combine × Lawful combine_held }

@@ -15,6 +15,6 @@ impl Run {
     pub(crate) fn contains(&self, cell: u16) -> bool
         ensures { result ≡ within self.now.lo self.now.hi cell }
     {
-        self.lo <= cell && cell < self.hi
+        (self.lo..self.hi).contains(&cell)
     }
 }

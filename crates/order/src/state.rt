@@ -1,5 +1,5 @@
 // Where a task stands.
-#[derive(Clone, Copy, PartialEq, Eq)]
+#[derive(Clone, Copy, Debug, PartialEq, Eq)]
 pub enum State {
     Created,
     Running,

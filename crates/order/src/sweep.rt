@@ -15,7 +15,7 @@ use kinds::holding::Holding;
 fn asks(access: &Access, cell: u16) -> Option<Holding>
     ensures { result ≡ asked_by access.now cell }
 {
-    if access.lo <= cell && cell < access.hi {
+    if (access.lo..access.hi).contains(&cell) {
         Holding::try_from(access.code).ok()
     } else {
         None
