@@ -5,7 +5,7 @@ use elements::element::Element;
 use elements::span::Span;
 use layers::allowance::Allowance;
 use layers::behind::WriteBehind;
-use std::io;
+use std::{fmt, io};
 use stores::chain::ChainStore;
 use stores::fault::{Cause, Fault};
 use stores::record::Record;
@@ -20,7 +20,35 @@ struct Event {
     pulses: u64,
 }
 
-const fn came(minute: u64, counter: u16, pulses: u64) -> Event {
+impl fmt::Display for Event {
+    fn fmt<W: fmt::Write>(&self, f: &mut fmt::Formatter<W>) -> fmt::Result {
+        let Event {
+            minute,
+            counter,
+            pulses,
+        } = *self;
+        write!(f, "minute {minute}: counter {counter}, pulses {pulses}")
+    }
+}
+
+// A write that was refused.
+#[derive(Clone, Copy)]
+struct Refused(Fault);
+
+impl fmt::Display for Refused {
+    fn fmt<W: fmt::Write>(&self, f: &mut fmt::Formatter<W>) -> fmt::Result {
+        let Fault { cause, depth, cell } = self.0;
+        let words = match cause {
+            Cause::RecordsUsedUp => "records used up",
+            Cause::AllowanceSpent => "allowance spent",
+            Cause::NoSuchCell => "no such cell",
+        };
+        let number = cause.number();
+        write!(f, "cause {number} ({words}), depth {depth}, cell {cell}")
+    }
+}
+
+fn came(minute: u64, counter: u16, pulses: u64) -> Event {
     Event {
         minute,
         counter,
@@ -46,51 +74,23 @@ fn day() -> [Event; 12] {
     ]
 }
 
-fn words(cause: Cause) -> &'static str {
-    match cause {
-        Cause::RecordsUsedUp => "records used up",
-        Cause::AllowanceSpent => "allowance spent",
-        Cause::NoSuchCell => "no such cell",
-    }
-}
-
-fn print_refusal(rt: &HostRuntime, fault: Fault) -> io::Result<()> {
-    let cause = fault.cause.number();
-    let why = words(fault.cause);
-    let depth = fault.depth;
-    let cell = fault.cell;
-    println!(rt; "  refused: cause {cause} ({why}), depth {depth}, cell {cell}")
-}
-
 // Counts the pulses, and notes the minute where they were counted.
 fn take<M: Store<E = Count>, T: Store<E = Span>>(
     meters: &mut M,
     times: &mut T,
-    e: Event,
+    event: Event,
 ) -> Result<u64, Fault> {
-    update(meters, e.counter, Count { value: e.pulses })?;
-    let minute = Span {
-        first: e.minute,
-        last: e.minute,
+    let counter = event.counter;
+    let pulses = Count {
+        value: event.pulses,
     };
+    let minute = Span {
+        first: event.minute,
+        last: event.minute,
+    };
+    update(meters, counter, pulses)?;
     update(times, 0, minute)?;
-    Ok(meters.read(e.counter).value)
-}
-
-fn print_event<M: Store<E = Count>, T: Store<E = Span>>(
-    rt: &HostRuntime,
-    meters: &mut M,
-    times: &mut T,
-    e: Event,
-) -> io::Result<()> {
-    let minute = e.minute;
-    let counter = e.counter;
-    let pulses = e.pulses;
-    println!(rt; "minute {minute}: counter {counter}, pulses {pulses}")?;
-    match take(meters, times, e) {
-        Ok(total) => println!(rt; "  counted: {total}"),
-        Err(fault) => print_refusal(rt, fault),
-    }
+    Ok(meters.read(counter).value)
 }
 
 fn print_totals<M: Store<E = Count>, T: Store<E = Span>>(
@@ -99,38 +99,45 @@ fn print_totals<M: Store<E = Count>, T: Store<E = Span>>(
     times: &T,
 ) -> io::Result<()> {
     for counter in 0..meters.count() {
-        let total = meters.read(counter).value;
-        println!(rt; "counter {counter} ends at {total}")?;
+        println!(rt; "counter {counter} ends at {}", meters.read(counter).value)?;
     }
-    let span = times.read(0);
-    let first = span.first;
-    let last = span.last;
+    let Span { first, last } = times.read(0);
     println!(rt; "pulses from minute {first} to minute {last}")
+}
+
+// A record of a chain store that holds nothing.
+fn unused<E: Element>() -> Record<E> {
+    Record {
+        value: E::at_rest(),
+        next: 0,
+    }
+}
+
+// So many writes, held back before they reach the chain store.
+type Pile<'a, 'b, E> = Allowance<WriteBehind<E, &'a mut ChainStore<'b, E>>>;
+
+fn pile<'a, 'b, E: Element>(chain: &'a mut ChainStore<'b, E>, writes: u64) -> Pile<'a, 'b, E> {
+    Allowance::new(WriteBehind::new(chain), writes)
 }
 
 // A meter's day: three counters, with three records and eight writes; and the span of minutes, with room to spare.
 fn main(rt: HostRuntime) -> io::Result<()> {
     let mut heads = [7u16; 3];
-    let mut records = [Record {
-        value: Count::at_rest(),
-        next: 0,
-    }; 3];
-    let mut chain = ChainStore::new(&mut heads, &mut records);
-    let mut meters = Allowance::new(WriteBehind::new(&mut chain), 8);
+    let mut records = [unused(); 3];
+    let mut counters = ChainStore::new(&mut heads, &mut records);
+    let mut meters = pile(&mut counters, 8);
 
     let mut span_heads = [7u16; 1];
-    let mut span_records = [Record {
-        value: Span::at_rest(),
-        next: 0,
-    }; 1];
-    let mut span_chain = ChainStore::new(&mut span_heads, &mut span_records);
-    let mut times = Allowance::new(
-        WriteBehind::new(&mut span_chain),
-        100,
-    );
+    let mut span_records = [unused(); 1];
+    let mut spans = ChainStore::new(&mut span_heads, &mut span_records);
+    let mut times = pile(&mut spans, 100);
 
-    for e in day() {
-        print_event(&rt, &mut meters, &mut times, e)?;
+    for event in day() {
+        println!(rt; "{event}")?;
+        match take(&mut meters, &mut times, event) {
+            Ok(total) => println!(rt; "  counted: {total}")?,
+            Err(fault) => println!(rt; "  refused: {}", Refused(fault))?,
+        }
     }
     print_totals(&rt, &meters, &times)
 }
