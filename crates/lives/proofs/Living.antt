@@ -21,10 +21,6 @@ use Rattle.lives.proofs.Taken.{taken}
 pub not_refused : {U : Type 0} (r : Result U Refusal) (u : U) (why : Refusal) → r ≡ Ok u → r ≡ Err why → ⊥
 not_refused r u why a b = let z : ◌≡◌ {A = ℕ} 0 1 = cc in omega arith
 
-pub created : (w x : World) (c t : ℕ) → Calm c 0 w → t ≡ count w → x ≡ born c w → Living Created c t x
-created w x c t calm n e =
-    subst (Living Created c t) (sym e) (subst (λ (y : ℕ). Living Created c y (born c w)) (sym n) (born_living w c calm))
-
 -- a call of a life is accepted, and leads to the tasks x
 abbrev pub Went : Result (Unit {0}) Refusal → World → World → Type 0
 Went r w x = (r ≡ Ok tt) × (count x ≡ count w)
@@ -57,18 +53,42 @@ module _ {S V : Type 0} (cells : S → List V) (verdict : S → ℕ → Verdict)
       let k = taken cells verdict took rest updated (λ _. Done) w s (Start t) r x m h (start_yes w c t life) in
       ((k.1, ap count k.2), subst (Living Running c t) (sym k.2) (started w c t life), k.4)
 
+  -- a new task that stands alone on the cell starts, and the store stays
+  pub begin_goes :
+      (v w x : World) (s m n : S) (c t : ℕ) (made : Result ℕ Refusal) (r : Result (Unit {0}) Refusal) →
+      One cells verdict took rest updated w m (Start t) (noted (λ _. Done) r) x n →
+      Calm c 0 v →
+      made ≡ Ok (count v) →
+      made ≡ Ok t →
+      w ≡ born c v →
+      m ≡ s →
+      Went r w x × Living Running c t x × (n ≡ s)
+  begin_goes v w x s m n c t made r h calm number was tasks store =
+      let same : t ≡ count v = cc in
+      let life : Living Created c t w =
+      subst (Living Created c t) (sym tasks) (subst (λ (y : ℕ). Living Created c y (born c v)) (sym same) (born_living v c calm))
+      in
+      let k = start_goes w m c t r x n h life in
+      (k.0, k.1, k.2 ∙ store)
+
+  -- it updates the cell, in a store n that is still the store s
   pub update_goes :
-      (w : World) (s : S) (c t : ℕ) (a : V) (r : Result (Unit {0}) Refusal) (x : World) (m : S) →
-      One cells verdict took rest updated w s (Update t c a) (noted (λ _. Done) r) x m →
+      (w : World) (s n : S) (c t : ℕ) (a : V) (r : Result (Unit {0}) Refusal) (x : World) (m : S) →
+      One cells verdict took rest updated w n (Update t c a) (noted (λ _. Done) r) x m →
       verdict s c ≡ None →
+      n ≡ s →
       Living Running c t w →
       Went r w x × Living Running c t x × Put cells verdict took rest updated s c (updated (get_or (cells s) c rest) a) m
-  update_goes w s c t a r x m h free life =
-      let yes : all_yes (all_questions w (is_open (verdict s c)) (step Updating t c)) ≡ true =
-      subst (λ (v : Verdict). all_yes (all_questions w (is_open v) (step Updating t c)) ≡ true) (sym free) (step_yes w c t life)
+  update_goes w s n c t a r x m h free kept life =
+      let free_now : verdict n c ≡ None = ap (λ k. verdict k c) kept ∙ free in
+      let yes : all_yes (all_questions w (is_open (verdict n c)) (step Updating t c)) ≡ true =
+      subst (λ (v : Verdict). all_yes (all_questions w (is_open v) (step Updating t c)) ≡ true) (sym free_now) (step_yes w c t life)
       in
-      let k = taken cells verdict took rest updated (λ _. Done) w s (Update t c a) r x m h yes in
-      ((k.1, ap count k.2), subst (Living Running c t) (sym k.2) life, k.4)
+      let k = taken cells verdict took rest updated (λ _. Done) w n (Update t c a) r x m h yes in (
+        (k.1, ap count k.2),
+        subst (Living Running c t) (sym k.2) life,
+        subst (λ (y : S). Put cells verdict took rest updated y c (updated (get_or (cells y) c rest) a) m) kept k.4,
+      )
 
   pub finish_goes :
       (w : World) (s : S) (c t : ℕ) (r : Result (Unit {0}) Refusal) (x : World) (m : S) →
@@ -78,14 +98,3 @@ module _ {S V : Type 0} (cells : S → List V) (verdict : S → ℕ → Verdict)
   finish_goes w s c t r x m h life =
       let k = taken cells verdict took rest updated (λ _. Done) w s (Finish t) r x m h (finish_yes w c t life) in
       ((k.1, ap count k.2), subst (Calm c 0) (sym k.2) (finished w c t life), k.4)
-
-  -- an update between calls that leave the store is an update of the store before them
-  pub put_carried :
-      (s t m n : S) (c : ℕ) (a : V) →
-      t ≡ s →
-      n ≡ m →
-      Put cells verdict took rest updated t c (updated (get_or (cells t) c rest) a) m →
-      Put cells verdict took rest updated s c (updated (get_or (cells s) c rest) a) n
-  put_carried s t m n c a p q h =
-      subst (λ (x : S). Put cells verdict took rest updated x c (updated (get_or (cells x) c rest) a) n) p
-      (subst (λ (y : S). Put cells verdict took rest updated t c (updated (get_or (cells t) c rest) a) y) (sym q) h)
