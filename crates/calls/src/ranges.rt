@@ -28,6 +28,7 @@ pub(crate) fn flag(n: u64) -> Result<bool, Unread>
 }
 
 // The numbers as accesses, three to each.
+#[tactic(auto, using(crate::proofs::Accesses::taking_no))]
 pub(crate) fn accesses(heap: Global, numbers: &[u64]) -> Result<Vec<Access>, Stop>
     requires { length numbers.now % 3 ≡ 0 }
     ensures { MatchResult result (λ v. (access_numbers v.items ≡ numbers.now) × AccessesFit numbers.now × (3 * length v.items ≡ length numbers.now)) (λ s. Stopped s (λ why. (why ≡ OutOfRange) × (AccessesFit numbers.now → ⊥))) }
