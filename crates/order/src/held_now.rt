@@ -57,7 +57,7 @@ impl Task {
             .is_some_and(|holding| holding.strong && holding.kind.fits(deed))
     }
 
-    // Whether both hold some cell so that the test says yes.
+    // Whether there is a cell of which both hold something, with holdings that pass the test.
     fn meets<F: Fn(Holding, Holding) -> bool>(&self, other: &Task, test: &F) -> bool
         requires { F.IsAlwaysCallable test.now }
         ensures { (q : Option Holding → Option Holding → Bool) → Compares (F.post test.now) q → SomeCell self.now.runs (λ c. q (holding_now self.now c) (holding_now other.now c)) result }
@@ -74,7 +74,7 @@ impl Task {
     {
         self.meets(
             later,
-            &|mine, theirs| { theirs.strong && mine.kind.conflicts(theirs.kind) },
+            &|mine, theirs| theirs.strong && mine.kind.conflicts(theirs.kind),
         )
     }
 
@@ -82,9 +82,10 @@ impl Task {
     pub(crate) fn shares_commutative(&self, other: &Task) -> bool
         ensures { SomeCell self.now.runs (λ c. is_commutative (holding_now self.now c) && is_commutative (holding_now other.now c)) result }
     {
+        let commutative = |holding: Holding| holding.kind == Kind::Commutative;
         self.meets(
             other,
-            &|mine, theirs| { mine.kind == Kind::Commutative && theirs.kind == Kind::Commutative },
+            &|mine, theirs| commutative(mine) && commutative(theirs),
         )
     }
 }

@@ -34,7 +34,7 @@ impl Runs {
             .any(|run| run.holding.kind == Kind::Commutative)
     }
 
-    // Whether every cell of the region is held so that the test says yes: a walk from run to run as long as they touch.
+    // Whether every cell of the region is held with a holding that passes the test: a walk from run to run as long as they touch.
     fn all_cells<F: Fn(Holding) -> bool>(&self, lo: u16, hi: u16, test: F) -> bool
         requires { F.IsAlwaysCallable test }
         ensures { (q : Option Holding → Bool) → Tests (F.post test) q → (n : ℕ) → hi ≤ n → result ≡ every n (λ c. not (within lo hi c) || q (held self.now c)) }

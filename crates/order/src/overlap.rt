@@ -8,7 +8,7 @@ use crate::run::Run;
 use crate::runs::Runs;
 use kinds::holding::Holding;
 
-// Whether what two tasks hold meets in some cell, where a test says which two holdings of one cell do.
+// Whether the holdings of two tasks meet in some cell: a test says which two holdings of one cell do.
 impl Run {
     // Whether a cell lies in both.
     fn overlaps(&self, other: &Run) -> bool

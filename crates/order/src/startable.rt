@@ -28,10 +28,7 @@ impl Table {
         ensures { result ≡ takes_turns (view self.now) t u }
     {
         let other = &self.tasks[u as usize];
-        if u == t || other.is_created() {
-            return true;
-        }
-        !other.shares_commutative(&self.tasks[t as usize])
+        u == t || other.is_created() || !other.shares_commutative(&self.tasks[t as usize])
     }
 
     pub(crate) fn no_earlier_conflict(&self, t: u16) -> bool
