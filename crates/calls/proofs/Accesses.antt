@@ -1,7 +1,7 @@
 -- Reading accesses from numbers, three at a time.
-use Rattle.std.proofs.Common.{◌≡◌, ℕ, ◌+◌, zero, suc, ◌*◌, ◌/◌, ◌%◌, ◌<◌, ◌≤◌, List, [], ◌∷◌, ◌++◌, length, get_or, take, drop, sym, refl, ap, ◌∙◌, subst, append-nil, arith, length-drop}
+use Rattle.std.proofs.Common.{◌≡◌, ℕ, ◌+◌, zero, suc, ◌*◌, ◌/◌, ◌<◌, ◌≤◌, List, [], ◌∷◌, ◌++◌, length, get_or, take, drop, sym, refl, ap, ◌∙◌, subst, arith, length-drop}
 use Rattle.std.specs.Simd.{first_chunks}
-use Rattle.std.proofs.lemmas.List.{length_push, nil_from_length, drop-drop}
+use Rattle.std.proofs.lemmas.List.{length_push, drop-drop}
 use Rattle.kinds.specs.declared.access.Access.{Access}
 use Rattle.calls.specs.Calls.{access_numbers, AccessesFit}
 
@@ -11,9 +11,6 @@ pub record Taking (ns : List ℕ) (accesses : List Access) (rest : List ℕ) : T
   pub to : AccessesFit ns → AccessesFit rest
   pub from : AccessesFit rest → AccessesFit ns
   pub count : 3 * length accesses + length rest ≡ length ns
-
-pub taking_none : (ns : List ℕ) → Taking ns [] ns
-taking_none ns = record { whole = refl; to = λ f. f; from = λ f. f; count = omega arith }
 
 access_push : (accesses : List Access) (a : Access) (rest : List ℕ) → access_numbers (accesses ++ (a ∷ [])) ++ rest ≡ access_numbers accesses ++ (a.lo ∷ (a.hi ∷ (a.code ∷ rest)))
 access_push [] a rest = refl
@@ -63,10 +60,3 @@ module _ (ns : List ℕ) (cs : List (List ℕ)) (i : ℕ) (are : cs ≡ first_ch
   -- the next chunk refused
   pub taking_no : ((get_or (get_or cs i []) 0 0 ≤ 65535) × (get_or (get_or cs i []) 1 0 ≤ 65535) × (get_or (get_or cs i []) 2 0 ≤ 255) → ⊥) → AccessesFit ns → ⊥
   taking_no never fits = let f = subst AccessesFit (chunk_next ns cs i are lt) (taking.to fits) in never (f.0, f.1, f.2)
-
-pub taking_all : (ns : List ℕ) (accesses : List Access) (rest : List ℕ) → length rest < 3 → length ns % 3 ≡ 0 → Taking ns accesses rest → (access_numbers accesses ≡ ns) × AccessesFit ns × (3 * length accesses ≡ length ns)
-taking_all ns accesses rest short third t =
-    let count = t.count in
-    let none : length rest ≡ 0 = omega arith in
-    let nil = nil_from_length rest none in
-    (sym (append-nil (access_numbers accesses)) ∙ ap (λ l. access_numbers accesses ++ l) (sym nil) ∙ t.whole, t.from (subst AccessesFit (sym nil) tt), omega arith)

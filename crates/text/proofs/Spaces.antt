@@ -59,9 +59,6 @@ module _ (bs w : List ℕ) (k : ℕ) (digits rest : List ℕ) (inside : w ≡ dr
   took_none read n more p =
       read n p.small (front ∙ ap (λ i. take i w) at ∙ (found_again w n more p.small p.next (inside ∙ ap (drop 1) p.whole)).0)
 
-pub took_first : (bs : List ℕ) (n : ℕ) (more : List ℕ) → Took bs n more → (0 < length bs) × (get_or bs 0 0 ≡ 32)
-took_first bs n more p = rw p.whole (omega arith, refl)
-
 next_spaced : (ns : List ℕ) → Next (spaced ns)
 next_spaced [] = tt
 next_spaced (n ∷ ns) = refl
@@ -71,9 +68,6 @@ pub record ReadingOn (bs ns rest : List ℕ) : Type 0 where
   pub small : AllSmall ns
   pub whole : bs ≡ spaced ns ++ rest
   pub only : (ms : List ℕ) → Writes bs ms → (more : List ℕ) × Writes rest more
-
-pub reading_none : (bs : List ℕ) → ReadingOn bs [] bs
-reading_none bs = record { small = tt; whole = refl; only = λ ms w. (ms, w) }
 
 small_push : (ns : List ℕ) (n : ℕ) → AllSmall ns → Small n → AllSmall (ns ++ (n ∷ []))
 small_push [] n all one = (one, tt)
