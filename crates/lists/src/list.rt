@@ -44,7 +44,7 @@ pub fn run_list(heap: Global, text: &[u8]) -> Result<String, AllocError>
 
 // What the lines after the header print.
 fn run_body(heap: Global, header: Header, body: Reader<'_>) -> Result<String, AllocError>
-    ensures { IfOk result (λ out. BodyOf header body.entry.rest.now (string_bytes out)) }
+    ensures { IfOk result (λ out. BodyOf header body.entry (string_bytes out)) }
 {
     match header.held {
         Held::Count => run_calls::<Count>(heap, header.cells, body),
@@ -54,7 +54,7 @@ fn run_body(heap: Global, header: Header, body: Reader<'_>) -> Result<String, Al
 
 // The same, where cells hold elements of this type.
 fn run_calls<E: Element>(heap: Global, cells: u16, body: Reader<'_>) -> Result<String, AllocError>
-    ensures { IfOk result (λ out. BodyBy E.Element cells body.entry.rest.now (string_bytes out)) }
+    ensures { IfOk result (λ out. BodyBy E.Element cells body.entry (string_bytes out)) }
 {
     let listing = read_calls::<E>(heap, body)?;
     let mut out = answer_calls(heap, cells, &listing.calls)?;

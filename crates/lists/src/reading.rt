@@ -13,7 +13,7 @@ pub(crate) fn read_calls<E: Element>(
     heap: Global,
     reader: Reader<'_>,
 ) -> Result<Listing<E>, AllocError>
-    ensures { IfOk result (λ l. CallsReadBy E.Element 2 reader.entry.rest.now l.calls.items l.end) }
+    ensures { IfOk result (λ l. CallsReadBy E.Element 2 reader.entry l.calls.items l.end) }
 {
     let mut calls = Vec::new(heap);
     let mut left = reader;

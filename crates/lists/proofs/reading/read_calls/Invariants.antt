@@ -4,7 +4,7 @@ use Rattle.lists.proofs.reading.read_calls.Given as goal
 
 abbrev pub invariant-loop-left : goal.invariant-loop-left
 invariant-loop-left g l =
-    SoFar g.E.Element.numbers g.E.Element.WIDTH g.E.Element.made l.initial.left.rest.now (vec_items l.calls) l.left.rest.now
+    SoFar g.E.Element.numbers g.E.Element.WIDTH g.E.Element.made l.initial.left (vec_items l.calls) l.left
 
 abbrev pub decreases-loop-left : goal.decreases-loop-left
-decreases-loop-left g l = length l.left.rest.now
+decreases-loop-left g l = length l.left
