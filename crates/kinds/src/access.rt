@@ -1,4 +1,5 @@
 // One access as it is asked for: the cells from lo up to, not including, hi, and the raw code of its kind.
+// Raw, since a caller may ask with any code, and one that stands for nothing is refused in its turn.
 #[derive(Clone, Copy, Debug, PartialEq, Eq)]
 pub struct Access {
     pub lo: u16,

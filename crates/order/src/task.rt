@@ -2,6 +2,7 @@ use crate::runs::Runs;
 use crate::state::State;
 
 // One task as the table keeps it; open counts its children that are not deeply complete.
+// Task 0 has no parent; its parent's number is 0 and no `None`, so that a climb ends there without a further case.
 #[derive(Drop)]
 pub struct Task {
     pub(crate) parent: u16,

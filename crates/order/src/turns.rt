@@ -8,7 +8,7 @@ use crate::refusal::Refusal;
 use crate::state::State;
 use crate::task::Task;
 
-// A call that only turns its task to another state.
+// A call that only turns its task to another state. A name and not a closure: the states and the calls are one table, below.
 #[derive(Clone, Copy)]
 pub enum Turn {
     Start,
