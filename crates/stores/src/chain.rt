@@ -1,4 +1,4 @@
-ghost use Rattle.std.specs.Prelude.{◌≡◌, ℕ, ◌<◌, ◌≤◌, length, slice_index_or};
+ghost use Rattle.std.specs.Prelude.{◌≡◌, ℕ, ◌<◌, length, slice_index_or};
 ghost use Rattle.stores.specs.Store.{reached, extent};
 ghost use Rattle.stores.specs.Chain.{Sound, record_value, head_values, head_values_few, chain_verdict, chain_beyond, Linked, cleared};
 
@@ -20,12 +20,13 @@ pub struct ChainStore<'a, E> {
 
 // The value of a record by its number, and the rest value for 0.
 fn value_of<E: Element>(records: &[Record<E>], number: u16) -> E
-    requires { number ≤ length records.now }
     ensures { result ≡ record_value E.Element.rest records.now number }
 {
     match number {
         0 => E::at_rest(),
-        _ => records[number as usize - 1].value,
+        _ => records
+            .get(usize::from(number) - 1)
+            .map_or(E::at_rest(), |record| record.value),
     }
 }
 
