@@ -41,5 +41,5 @@ show '5 clauses that stand thrice'    clauses
 show '5 members that travel together' members
 show '6 arrays, lengths, numbers'     lines '^ *(pub(\([a-z]+\))? )?[a-z_]+: (\[[A-Za-z0-9<>]+; ?[0-9A-Z_]+\]|usize,|&.*mut \[)|count: usize|list: \[|parent: u16'
 show '7 steps by a switch'            lines 'fn\(|dyn |impl Fn|match (step|\(self\.state, call\)|call|letter|self\.state|header\.held) '
-show '8 answer files'                 find crates -path '*/proofs/*' -name Answers.antt
-printf '%-36s %s\n' '8 lines of answers' "$(find crates -path '*/proofs/*' -name Answers.antt -print0 | xargs -0 cat | wc -l)"
+show '8 answer files'                 find crates/*/proofs -name Answers.antt
+printf '%-36s %s\n' '8 lines of answers' "$(find crates/*/proofs -name Answers.antt -print0 | xargs -0 cat | wc -l)"
