@@ -1,3 +1,4 @@
 pub mod Accesses
+pub mod Ends
 pub mod Whole
 pub mod Headers
