@@ -21,7 +21,8 @@ pub(crate) fn run_piled<E: Element>(
     records: &mut [Record<E>],
     turns: &mut [Turn<E>],
 )
-    requires { (length heads.old ≤ 65535) × (length records.old ≡ 64) }
+    requires few { length heads.old ≤ 65535 }
+    requires records { length records.old ≡ 64 }
     ensures ran { RanPiledBy E.Element (length heads.old) turns.new }
     ensures calls { calls_of turns.new ≡ calls_of turns.old }
 {

@@ -19,7 +19,10 @@ use stores::store::Store;
 
 // Task 0 creates a task that will use the cell.
 fn create_task<S: Store>(engine: &mut Engine<S>, cell: u16) -> Result<u16, Refusal>
-    requires { ((view engine.old.table).task 0 ≡ root engine.old.table.cells) × ((count (view engine.old.table) < 64) × ((cell < engine.old.table.cells) × (cell < 65535))) }
+    requires rooted { (view engine.old.table).task 0 ≡ root engine.old.table.cells }
+    requires room { count (view engine.old.table) < 64 }
+    requires exists { cell < engine.old.table.cells }
+    requires ends { cell < 65535 }
     ensures number { result ≡ Ok (count (view engine.old.table)) }
     ensures tasks { view engine.new.table ≡ born cell (view engine.old.table) }
     ensures store { engine.new.store ≡ engine.old.store }
@@ -34,7 +37,10 @@ fn create_task<S: Store>(engine: &mut Engine<S>, cell: u16) -> Result<u16, Refus
 
 // One task's life: it is created with the cell, starts, updates it by the amount and finishes.
 fn live<S: Store>(engine: &mut Engine<S>, cell: u16, amount: S::E) -> Result<(), Refusal>
-    requires { (Calm cell 0 (view engine.old.table)) × ((count (view engine.old.table) < 64) × ((S.Store.verdict engine.old.store cell ≡ None) × (cell < 65535))) }
+    requires calm { Calm cell 0 (view engine.old.table) }
+    requires room { count (view engine.old.table) < 64 }
+    requires open { S.Store.verdict engine.old.store cell ≡ None }
+    requires ends { cell < 65535 }
     ensures accepted { is_ok result ≡ true }
     ensures calm { Calm cell 0 (view engine.new.table) }
     ensures one { count (view engine.new.table) ≡ count (view engine.old.table) + 1 }
@@ -53,8 +59,10 @@ struct Crowd {
     cell: u16,
     alive: u16,
     lives: u16,
-    ghost later: { (0 < cell) × (cell < 65535) },
-    ghost fits: { (1 ≤ alive) × (alive + lives ≤ 64) },
+    ghost others: { 0 < cell },
+    ghost ends: { cell < 65535 },
+    ghost rooted: { 1 ≤ alive },
+    ghost room: { alive + lives ≤ 64 },
 }
 
 impl Crowd {

@@ -8,25 +8,25 @@ pub returns-in_err-start : goal.returns-in_err-start
 returns-in_err-start g c =
     let begun = begin_goes g.S.Store.cells g.S.Store.verdict g.S.Store.took g.S.E.Element.rest g.S.E.Element.updated
     (view c.args.engine.now.table) _ _ c.args.engine.now.store _ _ c.args.cell c.in_ok-task.task _ c.start.result
-    c.start.ensures c.requires.0 c.create_task.ensures.number c.in_ok-task.was c.create_task.ensures.tasks c.create_task.ensures.store in
+    c.start.ensures c.requires.calm c.create_task.ensures.number c.in_ok-task.was c.create_task.ensures.tasks c.create_task.ensures.store in
     absurd (not_refused c.start.result tt c.in_err-start.field-0.0 begun.0.0 c.in_err-start.was)
 
 pub returns-in_err-update : goal.returns-in_err-update
 returns-in_err-update g c =
     let begun = begin_goes g.S.Store.cells g.S.Store.verdict g.S.Store.took g.S.E.Element.rest g.S.E.Element.updated
     (view c.args.engine.now.table) _ _ c.args.engine.now.store _ _ c.args.cell c.in_ok-task.task _ c.start.result
-    c.start.ensures c.requires.0 c.create_task.ensures.number c.in_ok-task.was c.create_task.ensures.tasks c.create_task.ensures.store in
+    c.start.ensures c.requires.calm c.create_task.ensures.number c.in_ok-task.was c.create_task.ensures.tasks c.create_task.ensures.store in
     let stepped = update_goes g.S.Store.cells g.S.Store.verdict g.S.Store.took g.S.E.Element.rest g.S.E.Element.updated
-    _ c.args.engine.now.store _ c.args.cell c.in_ok-task.task c.args.amount c.update.result _ _ c.update.ensures c.requires.1.1.0 begun.2 begun.1 in
+    _ c.args.engine.now.store _ c.args.cell c.in_ok-task.task c.args.amount c.update.result _ _ c.update.ensures c.requires.open begun.2 begun.1 in
     absurd (not_refused c.update.result tt c.in_err-update.field-0.0 stepped.0.0 c.in_err-update.was)
 
 pub returns : goal.returns
 returns g c =
     let begun = begin_goes g.S.Store.cells g.S.Store.verdict g.S.Store.took g.S.E.Element.rest g.S.E.Element.updated
     (view c.args.engine.now.table) _ _ c.args.engine.now.store _ _ c.args.cell c.in_ok-task.task _ c.start.result
-    c.start.ensures c.requires.0 c.create_task.ensures.number c.in_ok-task.was c.create_task.ensures.tasks c.create_task.ensures.store in
+    c.start.ensures c.requires.calm c.create_task.ensures.number c.in_ok-task.was c.create_task.ensures.tasks c.create_task.ensures.store in
     let stepped = update_goes g.S.Store.cells g.S.Store.verdict g.S.Store.took g.S.E.Element.rest g.S.E.Element.updated
-    _ c.args.engine.now.store _ c.args.cell c.in_ok-task.task c.args.amount c.update.result _ _ c.update.ensures c.requires.1.1.0 begun.2 begun.1 in
+    _ c.args.engine.now.store _ c.args.cell c.in_ok-task.task c.args.amount c.update.result _ _ c.update.ensures c.requires.open begun.2 begun.1 in
     let over = finish_goes g.S.Store.cells g.S.Store.verdict g.S.Store.took g.S.E.Element.rest g.S.E.Element.updated
     _ _ c.args.cell c.in_ok-task.task c.finish.result _ _ c.finish.ensures stepped.1 in
     let more : count (view c.finish.new.self.table) ≡ suc (count (view c.args.engine.now.table)) =

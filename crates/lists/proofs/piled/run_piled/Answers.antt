@@ -11,7 +11,7 @@ returns g c =
     let first =
     made_shown g.E.Element.rest c.new-pile.result c.args.heads.now c.args.records.now _ c.new.result _ c.new-chain.result
     c.new-pile.ensures.below c.new-pile.ensures.left c.new.ensures.below c.new.ensures.held refl
-    c.new-chain.ensures.heads c.new-chain.ensures.records c.new-chain.ensures.used refl c.requires.0 c.requires.1 in
+    c.new-chain.ensures.heads c.new-chain.ensures.records c.new-chain.ensures.used refl c.requires.few c.requires.records in
     let moves = pile_moves _ (λ s i v t w. w.0.0) in
     record {
       ran =
