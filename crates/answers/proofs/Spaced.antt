@@ -1,6 +1,6 @@
 -- Numbers that are written one after the other.
 -- Assumes nothing.
-use Rattle.std.proofs.Common.{◌≡◌, ℕ, List, [], ◌∷◌, ◌++◌, length, get_or, map, Some, None, decimal, Option, Result, sym, refl, ap, ◌∙◌, inl, inr, append_assoc, append-nil, arith}
+use Rattle.std.proofs.Common.{◌≡◌, ℕ, List, [], ◌∷◌, ◌++◌, length, get_or, map, Some, None, decimal, Option, Result, sym, refl, ap, ◌∙◌, inl, inr, append_assoc, arith}
 use Rattle.std.proofs.lemmas.Bool.{cases_eq}
 use Rattle.std.proofs.lemmas.Iterator.{YieldsList}
 use Rattle.std.proofs.lemmas.List.FromFn.{fill_by_all}
@@ -13,14 +13,10 @@ use Rattle.std.specs.List.{range_with_len}
 use Rattle.std.specs.Result.{IsOk}
 use Rattle.text.specs.Form.{spaced}
 
-spaced_append : (ms ns : List ℕ) → spaced (ms ++ ns) ≡ spaced ms ++ spaced ns
+pub spaced_append : (ms ns : List ℕ) → spaced (ms ++ ns) ≡ spaced ms ++ spaced ns
 spaced_append [] ns = refl
 spaced_append (m ∷ ms) ns =
     ap (λ bs. 32 ∷ (decimal m ++ bs)) (spaced_append ms ns) ∙ ap (λ bs. 32 ∷ bs) (sym (append_assoc (decimal m) (spaced ms) (spaced ns)))
-
--- one number more
-pub spaced_push : (ns : List ℕ) (n : ℕ) → spaced ns ++ (32 ∷ decimal n) ≡ spaced (ns ++ n ∷ [])
-spaced_push ns n = ap (λ bs. spaced ns ++ (32 ∷ bs)) (sym (append-nil (decimal n))) ∙ sym (spaced_append ns (n ∷ []))
 
 -- a word, and after it the numbers that an iterator gives
 pub word_then :

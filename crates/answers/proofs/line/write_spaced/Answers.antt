@@ -1,14 +1,14 @@
-use Rattle.std.proofs.Common.{rules, sym, ap, ◌∙◌}
+use Rattle.std.proofs.Common.{arith, sym, ap, ◌∙◌}
+use Rattle.std.proofs.lemmas.Grind.{common_steps}
 use Rattle.std.proofs.lemmas.Iterator.Consumers.{YieldsList-at, YieldsList-end}
 use Rattle.std.proofs.lemmas.List.{map-id}
 use Rattle.text.specs.Form.{spaced}
-use Rattle.std.proofs.Output.{has_written_append, has_written_of_eq}
-use Rattle.answers.proofs.Spaced.{spaced_push}
+use Rattle.std.proofs.Output.{has_written_of_eq}
+use Rattle.answers.proofs.Spaced.{spaced_append}
 use Rattle.answers.proofs.line.write_spaced.Goals as goal
 
 pub loop-n-preserved : goal.loop-n-preserved
-loop-n-preserved g c = λ plain.
-    has_written_of_eq _ _ _ _ _ (spaced_push c.loop-n.yielded c.in-Some.n) (has_written_append _ _ _ _ _ _ (c.loop-n.invariant plain) (search rules))
+loop-n-preserved g c = grind (arith, common_steps, spaced_append)
 
 pub returns : goal.returns
 returns g c =

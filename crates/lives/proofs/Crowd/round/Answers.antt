@@ -1,7 +1,6 @@
-use Rattle.std.proofs.Common.{◌≡◌, suc, ◌%◌, ◌<◌, List, length, None, sym, ap, ◌∙◌, subst, add-one, arith}
+use Rattle.std.proofs.Common.{◌≡◌, suc, ◌%◌, ◌<◌, List, length, sym, ap, ◌∙◌, subst, add-one, arith}
 use Rattle.order.specs.Tasks.{count}
 use Rattle.order.specs.View.{view}
-use Rattle.stores.specs.Fault.{existing_below}
 use Rattle.stores.specs.Store.{reached, reached_length}
 use Rattle.std.proofs.lemmas.Nat.{mod_below}
 use Rattle.lives.specs.Crowd.{Calm}
@@ -28,6 +27,3 @@ loop-k-preserved c =
       ap count tasks ∙ (ap suc c.loop-k.invariant.1 ∙ sym (add-one c.loop-k.k)),
       subst (λ s. c.args.self.cell < length s.places.now) (sym c.create_task.ensures.store) c.loop-k.invariant.2,
     )
-
-pub live-requires : goal.live-requires
-live-requires c = (c.loop.invariant.0, (omega arith, (existing_below _ c.args.self.cell None (omega (arith, c.loop.invariant.2)), omega arith)))
