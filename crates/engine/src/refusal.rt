@@ -12,7 +12,7 @@ pub enum Refusal {
 }
 
 impl Refusal {
-    // The number that a call answers where it is refused for this reason.
+    // The number that a call answers where it is refused for this reason; a variant with a value has no number of its own to cast.
     pub fn number(self) -> u8
         ensures { result ≡ number_of self }
     {

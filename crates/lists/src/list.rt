@@ -42,7 +42,7 @@ pub fn run_list(heap: Global, text: &[u8]) -> Result<String, AllocError>
     }
 }
 
-// What the lines after the header print.
+// What the lines after the header print. The header's word becomes a type here, so this is a `match`.
 fn run_body(heap: Global, header: Header, body: Reader<'_>) -> Result<String, AllocError>
     ensures { IfOk result (λ out. BodyOf header body.entry (string_bytes out)) }
 {

@@ -5,6 +5,7 @@ ghost use Rattle.order.specs.View.{Known, view};
 
 use crate::table::Table;
 
+// The table and known numbers as parameters: a struct of them would be made anew for each question and taken apart in it.
 impl Table {
     fn parent(&self, t: u16) -> u16
         requires { Known self.now t }

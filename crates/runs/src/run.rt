@@ -20,7 +20,7 @@ fn list_ready<S: Store>(engine: &Engine<S>, places: usize) -> Result<Reply<S::E>
     Ok(Reply::Ready { count, list })
 }
 
-// Performs a call by the public call of its name.
+// Performs a call by the public call of its name. A `match` and no closures, since a call is data that a list holds and a caller reads.
 fn perform<S: Store>(engine: &mut Engine<S>, call: &Call<S::E>) -> Result<Reply<S::E>, Refusal>
     ensures { Led S.Store S.E.Element engine.old call.now result engine.new }
 {

@@ -14,7 +14,7 @@ fn take_turn<S: Store>(store: &mut S, turn: &mut Turn<S::E>)
     turn.answer = store.write(turn.cell, turn.value);
 }
 
-// Asks for each write in order.
+// Asks for each write in order. That what is asked for stays is one equation, here and at each caller; a name would be no shorter.
 pub fn write_each<S: Store>(store: &mut S, turns: &mut [Turn<S::E>])
     ensures went { WentOn S.Store store.old turns.new store.new }
     ensures asked { map asked turns.new ≡ map asked turns.old }
