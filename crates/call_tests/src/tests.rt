@@ -78,7 +78,10 @@ fn counts(rt: HostRuntime) {
     assert_eq!(rt; answer::<Count>(heap, b"n\n"), 24);
     assert_eq!(rt; answer::<Count>(heap, b"n 0 0\n"), 24);
     assert_eq!(rt; answer::<Count>(heap, b"n 0 0 1 0 2\n"), 24);
-    assert_eq!(rt; answer::<Count>(heap, b"n 0 0 18446744073709551615 0 2 1\n"), 24);
+    assert_eq!(rt;
+        answer::<Count>(heap, b"n 0 0 18446744073709551615 0 2 1\n"),
+        24
+    );
     assert_eq!(rt; answer::<Count>(heap, b"p 1 2\n"), 24);
     assert_eq!(rt; answer::<Count>(heap, b"p 1 2 3 4\n"), 24);
     assert_eq!(rt; answer::<Span>(heap, b"p 1 2 3\n"), 24);
