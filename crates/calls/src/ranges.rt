@@ -16,7 +16,7 @@ where
     T::try_from(n).map_err(|_| Unread::OutOfRange)
 }
 
-// The number as a flag.
+// The number as a flag. By cases, since no number converts to a `bool`.
 pub(crate) fn flag(n: u64) -> Result<bool, Unread>
     ensures { MatchResult result (λ b. ((if b then 1 else 0) ≡ n) × (n ≤ 1)) (λ why. (why ≡ OutOfRange) × (1 < n)) }
 {

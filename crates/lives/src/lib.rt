@@ -69,7 +69,7 @@ impl Crowd {
     // Each life is on the last of the cells, and the other tasks are on the others. None where that doesn't fit on an engine.
     fn new(cells: u16, alive: u16, lives: u16) -> Option<Crowd>
         ensures none { IsSome result ↔ IsTrue (fits cells alive lives) }
-        ensures some { IfSome result (λ c. (c.cell + 1 ≡ cells) × (c.lives ≡ lives)) }
+        ensures some { IfSome result (λ c. (c.cell + 1 ≡ cells) × (c.alive ≡ alive) × (c.lives ≡ lives)) }
     {
         if cells < 2 || alive < 1 || usize::from(alive) + usize::from(lives) > MOST_TASKS {
             return None;
@@ -91,6 +91,7 @@ impl Crowd {
             let _ = create_task(&mut engine, k % self.cell);
         }
         let mut lived = 0;
+        // A loop: a chain's closure would change the engine, and a proof then knows nothing of the engine at the next life.
         for _ in 0..self.lives {
             if live(&mut engine, self.cell, Count { value: 1 }).is_ok() {
                 lived += 1;
