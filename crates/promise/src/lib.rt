@@ -16,17 +16,14 @@ pub trait Updates: Sized {
 // Every history that runs by the order rules replays in program order, and never gets stuck.
 pub fn promise_stands<V: Updates>()
     ensures { Promise V.Updates.rest V.Updates.updated }
-{
-}
+{}
 
 // Deep completion, which looks at all descendants, is also said of the children alone.
 pub fn complete_by_children<V: Updates>()
     ensures { CompleteByChildren V.Updates.rest V.Updates.updated }
-{
-}
+{}
 
 // What the rules answer in cases that are easily got wrong.
 pub fn worked_cases()
     ensures { WorkedCases }
-{
-}
+{}
