@@ -126,6 +126,7 @@ pub fn count_lives(
     ensures { IfOk result (λ n. n ≡ (if fits cells alive lives then engines * lives else 0)) }
 {
     let Some(crowd) = Crowd::new(cells, alive, lives) else {
+        // What does not fit is not begun, and so no life of it is counted.
         return Ok(0);
     };
     let mut places = Vec::from_elem(heap, Count::at_rest(), usize::from(cells))?;

@@ -24,42 +24,22 @@ fn list_ready<S: Store>(engine: &Engine<S>, places: usize) -> Result<Reply<S::E>
 fn perform<S: Store>(engine: &mut Engine<S>, call: &Call<S::E>) -> Result<Reply<S::E>, Refusal>
     ensures { Led S.Store S.E.Element engine.old call.now result engine.new }
 {
+    let done = |()| Reply::Done;
     match call {
         Call::Create {
             parent,
             waits,
             accesses,
-        } => Ok(Reply::Task(engine.create(*parent, *waits, accesses)?)),
-        Call::Start { task } => {
-            engine.start(*task)?;
-            Ok(Reply::Done)
-        }
-        Call::Finish { task } => {
-            engine.finish(*task)?;
-            Ok(Reply::Done)
-        }
-        Call::Wait { task } => {
-            engine.wait(*task)?;
-            Ok(Reply::Done)
-        }
-        Call::Resume { task } => {
-            engine.resume(*task)?;
-            Ok(Reply::Done)
-        }
-        Call::Release { task, lo, hi } => {
-            engine.release(*task, *lo, *hi)?;
-            Ok(Reply::Done)
-        }
-        Call::Read { task, cell } => Ok(Reply::Value(engine.read(*task, *cell)?)),
-        Call::Write { task, cell, value } => {
-            engine.write(*task, *cell, *value)?;
-            Ok(Reply::Done)
-        }
-        Call::Update { task, cell, amount } => {
-            engine.update(*task, *cell, *amount)?;
-            Ok(Reply::Done)
-        }
-        Call::Look { cell } => Ok(Reply::Value(engine.look(*cell)?)),
+        } => engine.create(*parent, *waits, accesses).map(Reply::Task),
+        Call::Start { task } => engine.start(*task).map(done),
+        Call::Finish { task } => engine.finish(*task).map(done),
+        Call::Wait { task } => engine.wait(*task).map(done),
+        Call::Resume { task } => engine.resume(*task).map(done),
+        Call::Release { task, lo, hi } => engine.release(*task, *lo, *hi).map(done),
+        Call::Read { task, cell } => engine.read(*task, *cell).map(Reply::Value),
+        Call::Write { task, cell, value } => engine.write(*task, *cell, *value).map(done),
+        Call::Update { task, cell, amount } => engine.update(*task, *cell, *amount).map(done),
+        Call::Look { cell } => engine.look(*cell).map(Reply::Value),
         Call::Ready { places } => list_ready(engine, *places),
     }
 }
