@@ -58,13 +58,11 @@ impl Runs {
         requires room { length (in_use self.old) < 16 }
         ensures { in_use self.new ≡ appended (in_use self.old) run }
     {
-        match self.list.pop() {
-            Some(last) if last.goes_on(&run) => self.list.push(Run { hi: run.hi, ..last }),
-            Some(last) => {
-                self.list.push(last);
-                self.list.push(run);
-            }
-            None => self.list.push(run),
+        // Named apart, since a proof knows what a list is after a loan only where it is lent under a name of its own.
+        let list = &mut self.list;
+        match list.as_mut_slice().last_mut() {
+            Some(last) if last.goes_on(&run) => last.hi = run.hi,
+            _ => list.push(run),
         }
     }
 
