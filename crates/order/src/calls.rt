@@ -88,7 +88,7 @@ impl Table {
         ensures number { IfOk result (λ n. n ≡ count (view self.old)) }
     {
         let runs = self.may_create(parent, accesses)?;
-        let number = self.tasks.len() as u16;
+        let number = self.len();
         self.tasks[parent as usize].open_child();
         self.tasks.push_reserved(Task {
             parent,
