@@ -2,7 +2,7 @@ ghost use Rattle.std.specs.Prelude.{◌≡◌, ℕ, ◌<◌, ◌≤◌, length, 
 ghost use Rattle.order.specs.declared.refusal.Refusal.TheVariants.{NoSuchTask};
 ghost use Rattle.order.specs.declared.task.Task.{Task};
 ghost use Rattle.order.specs.Asked.{running_questions};
-ghost use Rattle.order.specs.Questions.{create, finish, first_no, first_number, release, resume, start, wait};
+ghost use Rattle.order.specs.Questions.{create, finish, first_number, release, resume, start, wait};
 ghost use Rattle.order.specs.Tasks.{count, new};
 ghost use Rattle.order.specs.View.{Did, Known, RecordOf, answer_number, view};
 
@@ -36,6 +36,7 @@ impl Table {
         Ok(task)
     }
 
+    // From here on each call indexes the record again: a lookup that lent it to change would have to promise which changes keep `sound`.
     // The task starts.
     pub fn start(&mut self, t: u16) -> Result<(), Refusal>
         ensures { Did (view self.old) (start t) result (view self.new) }

@@ -1,4 +1,4 @@
-use Rattle.std.proofs.Common.{◌≡◌, ◌≤◌, ◌∷◌, [], ◌++◌, ◌-◌, None, is_some, length, slice_set, sym, ap, ◌∙◌, arith, rules}
+use Rattle.std.proofs.Common.{◌≡◌, ◌≤◌, ◌∷◌, [], ◌++◌, None, is_some, length, sym, ap, ◌∙◌, arith}
 use Rattle.std.proofs.lemmas.Bool.{ltb-false}
 use Rattle.order.specs.Stretches.{longest}
 use Rattle.order.specs.Sweeping.{appended}
@@ -29,13 +29,13 @@ pushed c =
     let e = c.as_mut_slice.ensures.value in
     c.push.ensures.items
     ∙ elim c.in_default.branch [
-      in_default-via-in-Some+else-goes_on w ↦
+      | in_default-via-in-Some+else-goes_on w ↦
           let h = w.in-Some.ensures.item in
           let r = w.in-Some.last.now in
           ap (λ l. l.items ++ c.args.run ∷ []) w.list-is
           ∙ (ap (λ l. l ++ c.args.run ∷ []) (lent_same v xs e r c.args.run h.0 h.1)
           ∙ lent_behind v xs e r c.args.run h.0 h.1 (sym w.if-goes_on.ensures))
-    | in_default-via-in-None-1 w ↦
+      | in_default-via-in-None-1 w ↦
           let n : c.last_mut.result ≡ None = cc in
           let z : length xs ≤ 0 = ltb-false 0 (length xs) (sym c.last_mut.ensures.item.0 ∙ ap is_some n) in
           let l = ap length e in
