@@ -1,6 +1,7 @@
 #!/usr/bin/env bash
 # Counts the places in src/ that docs/DESIGN-PASS.md speaks of: tools/places.sh [-l] [ROOT]. With -l it lists them.
-# A line found is a place to look at. Twins are not counted here: see that page.
+# A line found is a place to look at. Rows with (then) look for the names of functions that stood when that page began. Twins are not
+# counted here: see that page.
 set -u
 list=no
 [ "${1:-}" = -l ] && { list=yes; shift; }
@@ -11,7 +12,7 @@ show() {
     shift
     local found
     found=$("$@" | grep -vE '^[^:]*:[0-9]*: *//')
-    printf '%-36s %s\n' "$name" "$(printf '%s' "$found" | grep -c .)"
+    printf '%-40s %s\n' "$name" "$(printf '%s' "$found" | grep -c .)"
     [ $list = no ] || [ -z "$found" ] || printf '%s\n' "$found" | sed 's/^/    /'
 }
 
@@ -30,16 +31,16 @@ members() {
 }
 
 show '1 own enums'                    lines '^ *(pub(\([a-z]+\))? )?enum '
-show '1 bool or Option for an error'  lines 'fn (push|push_left|has_count|without|known)\b.*-> (bool|Option)'
+show '1 bool, Option for an error (then)' lines 'fn (push|push_left|has_count|without|known)\b.*-> (bool|Option)'
 show '1 numbers for kinds, refusals'  lines '^ *(pub )?const [A-Z_]+: u8|-> \(?u8|=> [0-9]+,$'
 show '1 Option or Result by cases'    lines '^ *(None|Err\(_\)|Err\([a-z]+\)|Ok\(\(\)\)) => (None|Err|Ok|Some|0|1|false|true|E::|b,)|Err\(AllocError\)'
 show '3 counted or written out'       lines '^ *(for [a-z_]+ in [^{]*\.\.|while )|^ *(n|number|i|lived) \+= 1'
 show '3 all for loops'                lines '^ *for '
 show '4 tests by cases'               lines '=> (true|false),$'
-show '4 conversions and printing'     lines 'fn (from_code|of|number|number_of|kind|words|print_[a-z]+|[a-z]+_text|push_(number|numbers|value|end)|bound|code|flag|call|turns_of|ask)\b *[<(]'
+show '4 conversions, printing (then)' lines 'fn (from_code|of|number|number_of|kind|words|print_[a-z]+|[a-z]+_text|push_(number|numbers|value|end)|bound|code|flag|call|turns_of|ask)\b *[<(]'
 show '5 clauses that stand thrice'    clauses
 show '5 members that travel together' members
 show '6 arrays, lengths, numbers'     lines '^ *(pub(\([a-z]+\))? )?[a-z_]+: (\[[A-Za-z0-9<>]+; ?[0-9A-Z_]+\]|usize,|&.*mut \[)|count: usize|list: \[|parent: u16'
 show '7 steps by a switch'            lines 'fn\(|dyn |impl Fn|match (step|\(self\.state, call\)|call|letter|self\.state|header\.held) '
 show '8 answer files'                 find crates/*/proofs -name Answers.antt
-printf '%-36s %s\n' '8 lines of answers' "$(find crates/*/proofs -name Answers.antt -print0 | xargs -0 cat | wc -l)"
+printf '%-40s %s\n' '8 lines of answers' "$(find crates/*/proofs -name Answers.antt -print0 | xargs -0 cat | wc -l)"

@@ -83,11 +83,7 @@ fn refusals(rt: HostRuntime) -> Result<(), Fail> {
 
 #[test]
 fn answers_of_a_run(rt: HostRuntime) -> Result<(), Fail> {
-    let accesses = [Access {
-        lo: 1,
-        hi: 2,
-        code: 3,
-    }];
+    let accesses = [Access::new(1, 2, Access::INOUT)];
     let mut turns = [
         Turn::from(Call::Create {
             parent: 0,

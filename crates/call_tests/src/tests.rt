@@ -9,7 +9,7 @@ use std::test::Fail;
 use text::reader::Reader;
 use text::unread::Stop;
 
-// The number of a line's refusal, 0 where it is accepted and 1 for want of memory.
+// The number of a line's refusal, 0 where it is accepted and 1 for want of memory. Numbers, since the rules fix these.
 fn answer<E: Element>(heap: Global, line: &[u8]) -> u8 {
     match read_call::<E>(heap, line) {
         Ok(_) => 0,
@@ -18,6 +18,7 @@ fn answer<E: Element>(heap: Global, line: &[u8]) -> u8 {
     }
 }
 
+// The cells that a header names, 1,000 higher, or the number of its refusal.
 fn header(line: &[u8]) -> u16 {
     match read_header(line) {
         Ok(h) => 1000 + h.cells,

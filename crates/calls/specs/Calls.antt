@@ -1,6 +1,6 @@
 -- How calls are written, and the questions that a line is asked.
 -- Assumes nothing.
-use Rattle.std.specs.Prelude.{◌≡◌, ℕ, ◌+◌, ◌*◌, ◌≤◌, true, cond, List, [], ◌∷◌, ◌++◌, length, drop, is_some, vec_items, Option, Result, MatchResult, ◌≢◌, slice_index}
+use Rattle.std.specs.Prelude.{◌≡◌, ℕ, ◌+◌, ◌*◌, ◌≤◌, true, cond, List, [], ◌∷◌, ◌++◌, length, drop, is_some, vec_items, Option, Result, MatchResult, ◌≢◌, slice_index, slice_index_or}
 use Rattle.elements.specs.declared.element.Element as element
 use Rattle.kinds.specs.declared.access.Access.{Access}
 use Rattle.calls.specs.declared.letter.Letter.{Letter}
@@ -125,6 +125,15 @@ FirstNo width made line WrongCount =
 FirstNo width made line OutOfRange =
     (l : Letter) × (ns : List ℕ) × (line ≡ line_with l ns) × AllSmall ns × (length ns ≡ needed width l ns)
     × (Fits made l ns → ⊥)
+
+-- the first three numbers are those of the access, and in range
+pub record FirstAccess (ns : List ℕ) (a : Access) : Type 0 where
+  pub lo_is : a.lo ≡ slice_index ns 0
+  pub hi_is : a.hi ≡ slice_index ns 1
+  pub code_is : a.code ≡ slice_index ns 2
+  pub lo_fits : slice_index_or ns 0 0 ≤ 65535
+  pub hi_fits : slice_index_or ns 1 0 ≤ 65535
+  pub code_fits : slice_index_or ns 2 0 ≤ 255
 
 -- the call has the letter and the numbers, and all are in range
 pub record Made {E : Type 0} (value_numbers : E → List ℕ) (made : List ℕ → Option E) (l : Letter) (ns : List ℕ) (w : Written E) : Type 0 where

@@ -76,7 +76,7 @@ fn written<E: Element>(heap: Global, letter: Letter, numbers: &[u64]) -> Result<
     }
 }
 
-// The call that creates a task, with as many accesses.
+// The call that creates a task: rest has the numbers of as many accesses as count says.
 fn create<E: Element>(
     heap: Global,
     parent: u64,
@@ -87,6 +87,7 @@ fn create<E: Element>(
     requires { length rest.now ≡ 3 * count }
     ensures { NumbersRead E.Element Create (parent ∷ (waits ∷ (count ∷ rest.now))) result }
 {
+    // The count is a number of the line too, with a limit of its own; the accesses say it again.
     fit::<u8>(count)?;
     Ok(Written::Create {
         parent: fit(parent)?,

@@ -3,6 +3,7 @@ ghost use Rattle.engine.specs.declared.call.Reply.TheVariants.{Done};
 
 use crate::refusal::Refusal;
 use kinds::access::Access;
+use order::room::MOST_TASKS;
 
 // A call with all that a caller can say in it.
 #[derive(Clone, Copy)]
@@ -58,7 +59,10 @@ pub enum Reply<E> {
     Done,
     Task(u16),
     Value(E),
-    Ready { count: usize, list: [u16; 64] },
+    Ready {
+        count: usize,
+        list: [u16; MOST_TASKS],
+    },
 }
 
 // A call, and the place for its answer. The place always has an answer, so that those of a run are read without asking whether they are there.

@@ -15,15 +15,11 @@ use stores::flat::FlatStore;
 use stores::record::Record;
 use stores::store::Store;
 
-fn access(lo: u16, hi: u16, code: u8) -> Access {
-    Access { lo, hi, code }
-}
-
 fn count(value: u64) -> Count {
     Count { value }
 }
 
-// A refusal as its number, and the store's fault behind it; zeros where the call was accepted.
+// A refusal as its number, and the store's fault behind it; zeros where the call was accepted. Numbers, since a caller sees these.
 fn no<T: Drop>(r: Result<T, Refusal>) -> (u8, u8, u8, u16) {
     match r {
         Ok(_) => (0, 0, 0, 0),
@@ -37,10 +33,7 @@ const OK: (u8, u8, u8, u16) = (0, 0, 0, 0);
 #[test]
 fn faults_arrive_whole(rt: HostRuntime) -> Result<(), Fail> {
     let mut heads = [0u16; 3];
-    let mut records = [Record {
-        value: Count { value: 0 },
-        next: 0,
-    }; 1];
+    let mut records = [Record::unused(); 1];
     let mut chain = ChainStore::new(&mut heads, &mut records);
     let pile = Allowance::new(WriteBehind::new(&mut chain), 3);
     let mut e = Engine::new(Room::reserve(rt.alloc())?, pile);
@@ -73,7 +66,10 @@ fn refusals_alter_nothing(rt: HostRuntime) -> Result<(), Fail> {
     let mut cells = [count(3), count(4)];
     let pile = Allowance::new(WriteBehind::new(FlatStore::new(&mut cells)), 2);
     let mut e = Engine::new(Room::reserve(rt.alloc())?, pile);
-    assert_eq!(rt; no(e.create(0, false, &[access(0, 1, Access::IN)])), OK);
+    assert_eq!(rt;
+        no(e.create(0, false, &[Access::new(0, 1, Access::IN)])),
+        OK
+    );
     assert_eq!(rt; no(e.start(1)), OK);
     assert_eq!(rt; no(e.write(1, 0, count(9))), (15, 0, 0, 0));
     assert_eq!(rt; no(e.update(1, 1, count(9))), (15, 0, 0, 0));
@@ -110,7 +106,7 @@ fn spans_on_a_flat_store(rt: HostRuntime) -> Result<(), Fail> {
 fn limits(rt: HostRuntime) -> Result<(), Fail> {
     let mut cells = [count(0)];
     let mut e = Engine::new(Room::reserve(rt.alloc())?, FlatStore::new(&mut cells));
-    let a = access(0, 1, Access::IN);
+    let a = Access::new(0, 1, Access::IN);
     assert_eq!(rt; no(e.create(0, false, &[a, a, a, a, a, a, a, a])), OK);
     assert_eq!(rt;
         no(e.create(0, false, &[a, a, a, a, a, a, a, a, a])),
@@ -121,10 +117,7 @@ fn limits(rt: HostRuntime) -> Result<(), Fail> {
     }
     assert_eq!(rt; no(e.create(0, false, &[])), (3, 0, 0, 0));
     let mut list = [9u16; 64];
-    match e.ready(&mut list) {
-        Ok(n) => assert_eq!(rt; n, 63),
-        Err(_) => return Err(Fail::new("long enough")),
-    }
+    assert_eq!(rt; e.ready(&mut list).ok(), Some(63), "long enough");
     assert_eq!(rt; list[0], 1);
     assert_eq!(rt; list[63], 9);
     Ok(())
@@ -133,8 +126,8 @@ fn limits(rt: HostRuntime) -> Result<(), Fail> {
 #[test]
 fn a_run_notes_every_answer(rt: HostRuntime) -> Result<(), Fail> {
     let mut cells = [count(0); 4];
-    let writer = [access(0, 2, Access::INOUT)];
-    let reader = [access(1, 3, Access::OUT)];
+    let writer = [Access::new(0, 2, Access::INOUT)];
+    let reader = [Access::new(1, 3, Access::OUT)];
     let mut turns = [
         Turn::from(Call::Create {
             parent: 0,

@@ -1,3 +1,5 @@
+ghost use Rattle.std.specs.Prelude.{◌≡◌};
+
 // One access as it is asked for: the cells from lo up to, not including, hi, and the raw code of its kind.
 // Raw, since a caller may ask with any code, and one that stands for nothing is refused in its turn.
 #[derive(Clone, Copy, Debug, PartialEq, Eq)]
@@ -5,6 +7,14 @@ pub struct Access {
     pub lo: u16,
     pub hi: u16,
     pub code: u8,
+}
+
+impl Access {
+    pub fn new(lo: u16, hi: u16, code: u8) -> Access
+        ensures { result ≡ record { lo = lo; hi = hi; code = code } }
+    {
+        Access { lo, hi, code }
+    }
 }
 
 // The codes that stand for a holding.

@@ -3,7 +3,7 @@ ghost use Rattle.kinds.specs.Kinds.{conflict, covers, fits};
 
 use crate::deed::Deed;
 
-// How a task may use the cells of an access.
+// How a task may use the cells of an access. The default is only for the unused places of a list of fixed room.
 #[derive(Clone, Copy, Debug, Default, PartialEq, Eq)]
 pub enum Kind {
     #[default]
@@ -28,11 +28,7 @@ impl Kind {
     pub fn covers(self, child: Kind) -> bool
         ensures { result ≡ covers self child }
     {
-        match self {
-            Kind::Inout => true,
-            Kind::Commutative => false,
-            kind => kind == child,
-        }
+        self == Kind::Inout || self == child && self != Kind::Commutative
     }
 
     // Whether a strong holding of this kind allows the step.

@@ -29,6 +29,7 @@ pub fn run_list(heap: Global, text: &[u8]) -> Result<String, AllocError>
     ensures { IfOk result (λ out. Printed text.now (string_bytes out)) }
 {
     if text.len() > MOST_BYTES {
+        // Told as line 0: no line of it is at fault.
         return BadLine {
             line: 0,
             why: Unread::TooLong,
@@ -66,10 +67,10 @@ fn run_calls<E: Element>(heap: Global, cells: u16, body: Reader<'_>) -> Result<S
 fn push_end(out: &mut String, end: Option<BadLine>) -> Result<(), AllocError>
     ensures { OnOk result (string_bytes out.new ≡ string_bytes out.old ++ ending end) }
 {
-    match end {
-        Some(bad) => write!(out, "{bad}"),
-        None => Ok(()),
+    if let Some(bad) = end {
+        write!(out, "{bad}")?;
     }
+    Ok(())
 }
 
 // The lines of the calls' answers.
@@ -93,12 +94,8 @@ fn answer_turns<E: Element>(
     ensures { IfOk result (λ out. TakenBy E.Element cells turns.old turns.new (string_bytes out)) }
 {
     let room = Room::reserve(heap)?;
-    let unused = Record {
-        value: E::at_rest(),
-        next: 0,
-    };
     let mut heads = vec![in heap; 0u16; usize::from(cells)]?;
-    let mut records = vec![in heap; unused; RECORDS]?;
+    let mut records = vec![in heap; Record::unused(); RECORDS]?;
     run_piled(room, heads.as_mut_slice(), records.as_mut_slice(), turns);
     let mut out = String::new(heap);
     write_answers(&mut out, turns)?;

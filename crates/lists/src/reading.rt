@@ -1,4 +1,4 @@
-ghost use Rattle.std.specs.Prelude.{◌≤◌, length, IfOk};
+ghost use Rattle.std.specs.Prelude.{IfOk};
 ghost use Rattle.lists.specs.Reading.{CallsReadBy};
 
 use crate::listing::{BadLine, Listing};

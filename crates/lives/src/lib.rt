@@ -91,7 +91,7 @@ impl Crowd {
             let _ = create_task(&mut engine, k % self.cell);
         }
         let mut lived = 0;
-        // A loop: a chain's closure would change the engine, and a proof then knows nothing of the engine at the next life.
+        // Tried as `filter` and `count`: in the closure nothing is known of the engine, so what `live` asks stays open.
         for _ in 0..self.lives {
             if live(&mut engine, self.cell, Count { value: 1 }).is_ok() {
                 lived += 1;
@@ -126,6 +126,7 @@ pub fn count_lives(
     ensures { IfOk result (λ n. n ≡ (if fits cells alive lives then engines * lives else 0)) }
 {
     let Some(crowd) = Crowd::new(cells, alive, lives) else {
+        // What does not fit is not begun, and so no life of it is counted.
         return Ok(0);
     };
     let mut places = Vec::from_elem(heap, Count::at_rest(), usize::from(cells))?;

@@ -11,6 +11,7 @@ use stores::fault::{Cause, Fault};
 use stores::record::Record;
 use stores::store::Store;
 use stores::update::update;
+use writes::pile::Pile;
 
 // Pulses that came in at a minute of the day.
 #[derive(Clone, Copy)]
@@ -105,30 +106,20 @@ fn print_totals<M: Store<E = Count>, T: Store<E = Span>>(
     println!(rt; "pulses from minute {first} to minute {last}")
 }
 
-// A record of a chain store that holds nothing.
-fn unused<E: Element>() -> Record<E> {
-    Record {
-        value: E::at_rest(),
-        next: 0,
-    }
-}
-
 // So many writes, held back before they reach the chain store.
-type Pile<'a, 'b, E> = Allowance<WriteBehind<E, &'a mut ChainStore<'b, E>>>;
-
-fn pile<'a, 'b, E: Element>(chain: &'a mut ChainStore<'b, E>, writes: u64) -> Pile<'a, 'b, E> {
+fn pile<'a, 'b, E: Element>(chain: &'b mut ChainStore<'a, E>, writes: u64) -> Pile<'a, 'b, E> {
     Allowance::new(WriteBehind::new(chain), writes)
 }
 
 // A meter's day: three counters, with three records and eight writes; and the span of minutes, with room to spare.
 fn main(rt: HostRuntime) -> io::Result<()> {
     let mut heads = [7u16; 3];
-    let mut records = [unused(); 3];
+    let mut records = [Record::unused(); 3];
     let mut counters = ChainStore::new(&mut heads, &mut records);
     let mut meters = pile(&mut counters, 8);
 
     let mut span_heads = [7u16; 1];
-    let mut span_records = [unused(); 1];
+    let mut span_records = [Record::unused(); 1];
     let mut spans = ChainStore::new(&mut span_heads, &mut span_records);
     let mut times = pile(&mut spans, 100);
 

@@ -7,16 +7,12 @@ use engine::refusal::Refusal;
 use kinds::access::Access;
 use layers::allowance::Allowance;
 use layers::behind::WriteBehind;
-use order::room::Room;
+use order::room::{MOST_TASKS, Room};
 use runs::run::run;
 use std::fmt;
 use stores::chain::ChainStore;
 use stores::fault::Fault;
 use stores::record::Record;
-
-fn access(lo: u16, hi: u16, code: u8) -> Access {
-    Access { lo, hi, code }
-}
 
 // A call, as it is asked.
 #[derive(Clone, Copy)]
@@ -53,14 +49,28 @@ impl fmt::Display for Answered {
             Ok(Reply::Task(task)) => write!(f, "task {task}"),
             Ok(Reply::Value(total)) => write!(f, "value {}", total.value),
             Ok(Reply::Ready { count, .. }) => write!(f, "{count} ready"),
-            Err(why) => match why {
-                Refusal::Rule(_) => write!(f, "no {}", why.number()),
-                Refusal::Store(Fault { cause, depth, cell }) => {
-                    let (number, cause) = (why.number(), cause.number());
-                    write!(f, "no {number} {cause} {depth} {cell}")
-                }
-            },
+            Err(Refusal::Rule(why)) => write!(f, "no {}", why.number()),
+            Err(why @ Refusal::Store(Fault { cause, depth, cell })) => {
+                let (number, cause) = (why.number(), cause.number());
+                write!(f, "no {number} {cause} {depth} {cell}")
+            }
         }
+    }
+}
+
+fn create<'a>(parent: u16, waits: bool, accesses: &'a [Access]) -> Call<'a, Count> {
+    Call::Create {
+        parent,
+        waits,
+        accesses,
+    }
+}
+
+fn update<'a>(task: u16, cell: u16, value: u64) -> Call<'a, Count> {
+    Call::Update {
+        task,
+        cell,
+        amount: Count { value },
     }
 }
 
@@ -73,51 +83,19 @@ fn turns<'a>(
     closing: &'a [Access],
 ) -> [Turn<'a, Count>; 24] {
     [
-        Call::Create {
-            parent: 0,
-            waits: true,
-            accesses: parent,
-        },
+        create(0, true, parent),
         Call::Start { task: 1 },
-        Call::Create {
-            parent: 1,
-            waits: false,
-            accesses: left,
-        },
-        Call::Create {
-            parent: 1,
-            waits: false,
-            accesses: right,
-        },
-        Call::Create {
-            parent: 0,
-            waits: false,
-            accesses: closing,
-        },
-        Call::Ready { places: 64 },
+        create(1, false, left),
+        create(1, false, right),
+        create(0, false, closing),
+        Call::Ready { places: MOST_TASKS },
         Call::Start { task: 4 },
         Call::Start { task: 2 },
         Call::Start { task: 3 },
-        Call::Update {
-            task: 2,
-            cell: 0,
-            amount: Count { value: 5 },
-        },
-        Call::Update {
-            task: 3,
-            cell: 1,
-            amount: Count { value: 7 },
-        },
-        Call::Update {
-            task: 2,
-            cell: 1,
-            amount: Count { value: 4 },
-        },
-        Call::Update {
-            task: 3,
-            cell: 2,
-            amount: Count { value: 1 },
-        },
+        update(2, 0, 5),
+        update(3, 1, 7),
+        update(2, 1, 4),
+        update(3, 2, 1),
         Call::Finish { task: 2 },
         Call::Finish { task: 3 },
         Call::Finish { task: 1 },
@@ -135,16 +113,13 @@ fn turns<'a>(
 
 // Runs the job with the parent's access of this kind, on the pile that an instrument has.
 fn job(rt: &HostRuntime, code: u8) -> anyhow::Result<()> {
-    let parent = [access(0, 3, code)];
-    let left = [access(0, 2, Access::CONCURRENT)];
-    let right = [access(1, 3, Access::CONCURRENT)];
-    let closing = [access(0, 3, Access::IN)];
+    let parent = [Access::new(0, 3, code)];
+    let left = [Access::new(0, 2, Access::CONCURRENT)];
+    let right = [Access::new(1, 3, Access::CONCURRENT)];
+    let closing = [Access::new(0, 3, Access::IN)];
     let mut turns = turns(&parent, &left, &right, &closing);
     let mut heads = [0u16; 3];
-    let mut records = [Record {
-        value: Count::at_rest(),
-        next: 0,
-    }; 16];
+    let mut records = [Record::unused(); 16];
     let mut chain = ChainStore::new(&mut heads, &mut records);
     let pile = Allowance::new(WriteBehind::new(&mut chain), 100);
     let room = Room::reserve(rt.alloc())?;

@@ -1,8 +1,10 @@
 -- One more run behind others, as a part of the last where it goes on with that.
 -- Assumes nothing.
-use Rattle.std.proofs.Common.{◌≡◌, ℕ, ◌+◌, ◌<◌, ◌≤◌, Bool, true, false, cond, ◌&&◌, eqb, ltb, leb, ◌⊎◌, List, [], ◌∷◌, ◌++◌, length, Some, None, Option, sym, refl, ap, ◌∙◌, inl, inr, append_assoc, arith}
-use Rattle.std.proofs.lemmas.Bool.{and_parts, and_cases, and_from, or_left, or_right, cases_lt, eqb-true, eq-eqb, lt-ltb, leb-true, le-leb, not_from_false}
+use Rattle.std.proofs.Common.{◌≡◌, ℕ, zero, suc, ◌+◌, ◌-◌, ◌<◌, ◌≤◌, Bool, true, false, cond, ◌&&◌, eqb, ltb, leb, ◌⊎◌, List, [], ◌∷◌, ◌++◌, get_or, slice_set, length-set, length, Some, None, Option, sym, refl, ap, ◌∙◌, inl, inr, arith}
+use Rattle.std.proofs.lemmas.Bool.{and_parts, and_cases, and_from, or_left, or_right, cases_lt, eqb-true, eq-eqb, lt-ltb, ltb-true, leb-true, le-leb, not_from_false}
 use Rattle.std.proofs.lemmas.Bool.Decides.{nat_tests}
+use Rattle.arrayvec.specs.ArrayVec.{ArrayVec, with_items}
+use Rattle.arrayvec.proofs.ArrayVecLemmas.{items-with_items}
 use Rattle.kinds.specs.declared.holding.Holding.{Holding}
 use Rattle.order.specs.declared.run.Run.{Run}
 use Rattle.kinds.specs.Kinds.{equal, within}
@@ -13,22 +15,65 @@ use Rattle.kinds.proofs.Every.{clash}
 use Rattle.kinds.proofs.Combining.{same_holding}
 use Rattle.order.proofs.Stretched.{first_run}
 
--- only the last run matters
-appended_last : (xs : List Run) (r s : Run) → appended (xs ++ r ∷ []) s ≡ xs ++ appended (r ∷ []) s
-appended_last [] r s = refl
-appended_last (x ∷ []) r s = refl
-appended_last (x ∷ y ∷ more) r s = ap (λ l. x ∷ l) (appended_last (y ∷ more) r s)
-
--- the last run made longer
-pub lengthened : (all xs : List Run) (r s : Run) → all ≡ xs ++ r ∷ [] → goes_on r s ≡ true → xs ++ part r r.lo s.hi ∷ [] ≡ appended all s
-lengthened all xs r s e g =
-    sym (ap (λ l. appended l s) e ∙ (appended_last xs r s ∙ ap (λ t. xs ++ cond t (part r r.lo s.hi ∷ []) (r ∷ s ∷ [])) g))
+-- only the last run matters, and it may be written anew in its place
+pub last_longer :
+    (xs : List Run) (k : ℕ) (r s : Run) →
+    k + 1 ≡ length xs →
+    r ≡ get_or xs k r →
+    goes_on r s ≡ true →
+    slice_set xs k (part r r.lo s.hi) ≡ appended xs s
+last_longer [] k r s h e g = absurd (omega arith)
+last_longer (x ∷ []) zero r s h e g =
+    ap (λ t. cond t (part r r.lo s.hi ∷ []) (r ∷ s ∷ [])) (sym g) ∙ ap (λ z. appended (z ∷ []) s) e
+last_longer (x ∷ []) (suc k) r s h e g = absurd (omega arith)
+last_longer (x ∷ y ∷ more) zero r s h e g = absurd (omega arith)
+last_longer (x ∷ y ∷ more) (suc k) r s h e g = ap (λ l. x ∷ l) (last_longer (y ∷ more) k r s (omega arith) e g)
 
 -- a run that does not go on with the last
-pub put_behind : (all xs : List Run) (r s : Run) → all ≡ xs ++ r ∷ [] → goes_on r s ≡ false → (xs ++ r ∷ []) ++ s ∷ [] ≡ appended all s
-put_behind all xs r s e g =
-    append_assoc xs (r ∷ []) (s ∷ [])
-    ∙ sym (ap (λ l. appended l s) e ∙ (appended_last xs r s ∙ ap (λ t. xs ++ cond t (part r r.lo s.hi ∷ []) (r ∷ s ∷ [])) g))
+pub put_behind :
+    (xs : List Run) (k : ℕ) (r s : Run) →
+    k + 1 ≡ length xs →
+    r ≡ get_or xs k r →
+    goes_on r s ≡ false →
+    xs ++ s ∷ [] ≡ appended xs s
+put_behind [] k r s h e g = absurd (omega arith)
+put_behind (x ∷ []) zero r s h e g =
+    ap (λ z. z ∷ s ∷ []) (sym e) ∙ (ap (λ t. cond t (part r r.lo s.hi ∷ []) (r ∷ s ∷ [])) (sym g) ∙ ap (λ z. appended (z ∷ []) s) e)
+put_behind (x ∷ []) (suc k) r s h e g = absurd (omega arith)
+put_behind (x ∷ y ∷ more) zero r s h e g = absurd (omega arith)
+put_behind (x ∷ y ∷ more) (suc k) r s h e g = ap (λ l. x ∷ l) (put_behind (y ∷ more) k r s (omega arith) e g)
+
+set_same : (xs : List Run) (k : ℕ) (r : Run) → r ≡ get_or xs k r → slice_set xs k r ≡ xs
+set_same [] k r e = refl
+set_same (x ∷ more) zero r e = ap (λ z. z ∷ more) e
+set_same (x ∷ more) (suc k) r e = ap (λ l. x ∷ l) (set_same more k r e)
+
+-- without a run
+pub none_lent : (v : ArrayVec Run) (xs : List Run) → xs ≡ v.items → (with_items v xs).items ≡ v.items
+none_lent v xs e = items-with_items v xs (ap length e) ∙ e
+
+pub first_behind : (xs : List Run) (s : Run) → length xs ≤ 0 → xs ++ s ∷ [] ≡ appended xs s
+first_behind [] s h = refl
+first_behind (x ∷ more) s h = absurd (omega arith)
+
+-- the last run of a slice, lent and longer afterwards
+module _ (v : ArrayVec Run) (xs : List Run) (e : xs ≡ v.items) (r s : Run) (some : true ≡ ltb 0 (length xs)) (is : r ≡ get_or xs (length xs - 1) r) where
+  last : length xs - 1 + 1 ≡ length xs
+  last = let k = ltb-true 0 (length xs) (sym some) in omega arith
+
+  pub lent_longer : goes_on r s ≡ true → (with_items v (slice_set xs (length xs - 1) (part r r.lo s.hi))).items ≡ appended v.items s
+  lent_longer g =
+      let l = ap length e in
+      items-with_items v _ (omega (arith, length-set {A = Run}))
+      ∙ (last_longer xs (length xs - 1) r s last is g ∙ ap (λ l. appended l s) e)
+
+  pub lent_same : (with_items v (slice_set xs (length xs - 1) r)).items ≡ v.items
+  lent_same =
+      let l = ap length e in
+      items-with_items v _ (omega (arith, length-set {A = Run})) ∙ (set_same xs (length xs - 1) r is ∙ e)
+
+  pub lent_behind : goes_on r s ≡ false → v.items ++ s ∷ [] ≡ appended v.items s
+  lent_behind g = ap (λ l. l ++ s ∷ []) (sym e) ∙ (put_behind xs (length xs - 1) r s last is g ∙ ap (λ l. appended l s) e)
 
 -- the first run keeps its beginning and its holding
 apart_appended : (r t : Run) (more : List Run) (s : Run) → apart_first r (appended (t ∷ more) s) ≡ apart r t

@@ -1,12 +1,19 @@
 -- A sweep over the bounds of accesses: between two bounds all cells are asked alike, and each step passes a bound.
 -- Assumes nothing.
-use Rattle.std.proofs.Common.{◌≡◌, ℕ, ◌+◌, ◌-◌, ◌*◌, ◌<◌, ◌≤◌, Bool, true, false, cond, ◌&&◌, ltb, leb, ◌⊎◌, List, [], ◌∷◌, length, Some, None, Option, sym, refl, ap, ◌∙◌, subst, inl, inr, arith}
-use Rattle.std.specs.List.{fold}
+use Rattle.std.proofs.Common.{◌≡◌, ℕ, ◌+◌, ◌-◌, ◌*◌, ◌<◌, ◌≤◌, Bool, true, false, cond, ◌&&◌, ltb, leb, ◌⊎◌, List, [], ◌∷◌, ◌++◌, map, min, length, Some, None, Option, sym, refl, ap, ◌∙◌, subst, inl, inr, arith}
+use Rattle.std.specs.List.{fold, FoldsTo, reduce, filter, filter_map, cons_option}
 use Rattle.std.proofs.lemmas.Bool.{and_parts, and_from, cases_lt, cond-true, cond-false, cond_both, lt-ltb, le-ltb, ltb-true, ltb-false, le-leb, lt-leb, leb-true}
+use Rattle.std.proofs.lemmas.Bool.Decides.{nat_tests}
+use Rattle.std.proofs.lemmas.List.Sums.{fold-append}
+use Rattle.std.proofs.lemmas.Iterator.{YieldsList}
+use Rattle.std.proofs.lemmas.Iterator.Consumers.{reduce_from_yields_List}
+use Rattle.std.specs.Fn.{Called}
+use Rattle.std.specs.Iterator.{ReducesItems}
+use denote.Param.Members.{Mut}
 use Rattle.kinds.specs.declared.access.Access.{Access}
 use Rattle.kinds.specs.declared.holding.Holding.{Holding}
 use Rattle.order.specs.declared.run.Run.{Run}
-use Rattle.kinds.specs.Kinds.{asked, combine_held, holding_of, within}
+use Rattle.kinds.specs.Kinds.{asked, combine, combine_held, holding_of, within}
 use Rattle.order.specs.Questions.{region_lies, regions_lie}
 use Rattle.order.specs.Stretches.{held_at, apart_first, longest, end_by}
 use Rattle.order.specs.Sweeping.{asked_by, sooner, better, nearest}
@@ -14,22 +21,105 @@ use Rattle.order.specs.Tasks.{World}
 use Rattle.kinds.proofs.Combining.{combine_held_lawful}
 use Rattle.order.proofs.Stretched.{within_in, within_before, within_after, first_run, none_below}
 
--- what a fold over the accesses gives
-combine_none : (h : Option Holding) → combine_held h None ≡ h
-combine_none None = refl
-combine_none (Some a) = refl
+-- what `reduce` gives at a closure that computes h and changes nothing
+folds :
+    {A F : Type 0} {f : F} (g : Mut F (A × (A × Unit {0})) A) (h : A → A → A) →
+    ((a b r : A) (q : F) → Called g f (a, (b, tt)) r q → (q ≡ f) × (r ≡ h a b)) →
+    (xs : List A) (p q : F × A) →
+    p.0 ≡ f →
+    FoldsTo {P = F × A} (λ p z c. Called g p.0 (p.1, (z, tt)) c.1 c.0) p xs q →
+    FoldsTo (λ a z c. c ≡ h a z) p.1 xs q.1
+folds g h k [] p q e r = ap (λ w. w.1) r
+folds g h k (z ∷ more) p q e (j, c, t) =
+    let d = k p.1 z j.1 j.0 (subst (λ w. Called g w (p.1, (z, tt)) j.1 j.0) e c) in
+    (j.1, d.1, folds g h k more j q d.0 t)
 
-asked_on : (xs : List Access) (c : ℕ) (h : Option Holding) → fold (λ held a. combine_held held (asked_by a c)) h xs ≡ combine_held h (asked xs c)
-asked_on [] c h = sym (combine_none h)
-asked_on (a ∷ more) c h = asked_on more c (combine_held h (asked_by a c)) ∙ combine_held_lawful.associates h (asked_by a c) (asked more c)
+pub reduced :
+    {S A F : Type 0} {steps : S → Option A → S → Type 0} {s : S} {all : List A} {f : F} (g : Mut F (A × (A × Unit {0})) A) (h : A → A → A) (r : Option A) →
+    ReducesItems steps g s f r →
+    YieldsList steps (λ x. x) s all →
+    ((a b r : A) (q : F) → Called g f (a, (b, tt)) r q → (q ≡ f) × (r ≡ h a b)) →
+    r ≡ reduce h all
+reduced {s = s} g h None m road k = reduce_from_yields_List h s None m road
+reduced {s = s} {f = f} g h (Some y) (x, xs, q, d, t) road k = reduce_from_yields_List h s (Some y) (x, xs, d, folds g h k xs (f, x) (q, y) refl t) road
 
-pub asked_fold : (xs : List Access) (c : ℕ) → fold (λ held a. combine_held held (asked_by a c)) None xs ≡ asked xs c
-asked_fold xs c = asked_on xs c None
+-- what the accesses ask of a cell, combined from the first on
+combined_on : (ys : List Holding) (h : Holding) → Some (fold combine h ys) ≡ combine_held (Some h) (reduce combine ys)
+combined_on [] h = refl
+combined_on (y ∷ more) h =
+    combined_on more (combine h y)
+    ∙ (combine_held_lawful.associates (Some h) (Some y) (reduce combine more)
+    ∙ ap (combine_held (Some h)) (sym (combined_on more y)))
 
--- so does the one that finds the nearest bound
-pub nearest_fold : (pos : ℕ) (xs : List Access) (best : Option ℕ) → fold (λ b a. better pos a.hi (better pos a.lo b)) best xs ≡ nearest pos xs best
-nearest_fold pos [] best = refl
-nearest_fold pos (a ∷ more) best = nearest_fold pos more (better pos a.hi (better pos a.lo best))
+pub asked_reduce : (xs : List Access) (c : ℕ) → reduce combine (filter_map (λ a. asked_by a c) xs) ≡ asked xs c
+asked_reduce [] c = refl
+asked_reduce (a ∷ more) c = go (asked_by a c) (asked_reduce more c)
+  where
+    rest : List Holding
+    rest = filter_map (λ x. asked_by x c) more
+
+    go : (o : Option Holding) → reduce combine rest ≡ asked more c → reduce combine (cons_option o rest) ≡ combine_held o (asked more c)
+    go None e = e
+    go (Some h) e = combined_on rest h ∙ ap (combine_held (Some h)) e
+
+-- the nearest bound of a list of bounds, beginning with the best so far
+abbrev nearest_of : ℕ → Option ℕ → List ℕ → Option ℕ
+nearest_of pos = fold (λ o b. better pos b o)
+
+-- it does not depend on the order in which the bounds are looked at
+better_swap : (pos b d : ℕ) (o : Option ℕ) → better pos b (better pos d o) ≡ better pos d (better pos b o)
+better_swap pos b d None = grind (arith, nat_tests)
+better_swap pos b d (Some x) = grind (arith, nat_tests)
+
+better_last : (pos b : ℕ) (ys : List ℕ) (o : Option ℕ) → nearest_of pos (better pos b o) ys ≡ better pos b (nearest_of pos o ys)
+better_last pos b [] o = refl
+better_last pos b (d ∷ more) o = ap (λ x. nearest_of pos x more) (better_swap pos d b o) ∙ better_last pos b more (better pos d o)
+
+begins : List Access → List ℕ
+begins xs = map (λ (a : Access). a.lo) xs
+
+ends : List Access → List ℕ
+ends xs = map (λ (a : Access). a.hi) xs
+
+nearest_parts : (pos : ℕ) (xs : List Access) (o : Option ℕ) → nearest pos xs o ≡ nearest_of pos (nearest_of pos o (begins xs)) (ends xs)
+unfolding begins ends
+nearest_parts pos [] o = refl
+nearest_parts pos (a ∷ more) o =
+    nearest_parts pos more (better pos a.hi (better pos a.lo o))
+    ∙ ap (λ x. nearest_of pos x (ends more)) (better_last pos a.hi (begins more) (better pos a.lo o))
+
+-- `min` of the bounds above pos finds it
+least_on : (pos : ℕ) (ys : List ℕ) (x : ℕ) → Some (fold min x (filter (ltb pos) ys)) ≡ nearest_of pos (Some x) ys
+least_on pos [] x = refl
+least_on pos (y ∷ more) x = go (cases_lt pos y) (least_on pos more x) (least_on pos more (min x y))
+  where
+    kept : Some (min x y) ≡ cond (ltb y x) (Some y) (Some x)
+    kept = grind (arith, nat_tests)
+
+    go :
+        (pos < y) ⊎ (y ≤ pos) →
+        Some (fold min x (filter (ltb pos) more)) ≡ nearest_of pos (Some x) more →
+        Some (fold min (min x y) (filter (ltb pos) more)) ≡ nearest_of pos (Some (min x y)) more →
+        Some (fold min x (filter (ltb pos) (y ∷ more))) ≡ nearest_of pos (better pos y (Some x)) more
+    go (inl h) e f = let k = lt-ltb pos y h in rw k (f ∙ ap (λ (o : Option ℕ). nearest_of pos o more) kept)
+    go (inr h) e f = let k = le-ltb pos y h in rw k e
+
+least : (pos : ℕ) (ys : List ℕ) → reduce min (filter (ltb pos) ys) ≡ nearest_of pos None ys
+least pos [] = refl
+least pos (y ∷ more) = go (cases_lt pos y) (least pos more)
+  where
+    go :
+        (pos < y) ⊎ (y ≤ pos) →
+        reduce min (filter (ltb pos) more) ≡ nearest_of pos None more →
+        reduce min (filter (ltb pos) (y ∷ more)) ≡ nearest_of pos (better pos y None) more
+    go (inl h) e = let k = lt-ltb pos y h in rw k (least_on pos more y)
+    go (inr h) e = let k = le-ltb pos y h in rw k e
+
+pub nearest_reduce : (pos : ℕ) (xs : List Access) → reduce min (filter (ltb pos) (map (λ (a : Access). a.lo) xs ++ map (λ (a : Access). a.hi) xs)) ≡ nearest pos xs None
+unfolding begins ends
+nearest_reduce pos xs =
+    least pos (begins xs ++ ends xs)
+    ∙ (fold-append (λ o b. better pos b o) None (begins xs) (ends xs) ∙ sym (nearest_parts pos xs None))
 
 -- a bound that is found lies at d or before
 abbrev AtMost : Option ℕ → ℕ → Type 0

@@ -2,7 +2,7 @@ ghost use Rattle.std.specs.Prelude.{◌≡◌, ℕ, ◌<◌, ◌≤◌, length, 
 ghost use Rattle.order.specs.declared.refusal.Refusal.TheVariants.{NoSuchTask};
 ghost use Rattle.order.specs.declared.task.Task.{Task};
 ghost use Rattle.order.specs.Asked.{running_questions};
-ghost use Rattle.order.specs.Questions.{create, finish, first_no, first_number, release, resume, start, wait};
+ghost use Rattle.order.specs.Questions.{create, finish, first_number, release, resume, start, wait};
 ghost use Rattle.order.specs.Tasks.{count, new};
 ghost use Rattle.order.specs.View.{Did, Known, RecordOf, answer_number, view};
 
@@ -36,6 +36,7 @@ impl Table {
         Ok(task)
     }
 
+    // From here on each call indexes the record again: a lookup that lent it to change would have to promise which changes keep `sound`.
     // The task starts.
     pub fn start(&mut self, t: u16) -> Result<(), Refusal>
         ensures { Did (view self.old) (start t) result (view self.new) }
@@ -88,7 +89,7 @@ impl Table {
         ensures number { IfOk result (λ n. n ≡ count (view self.old)) }
     {
         let runs = self.may_create(parent, accesses)?;
-        let number = self.tasks.len() as u16;
+        let number = self.len();
         self.tasks[parent as usize].open_child();
         self.tasks.push_reserved(Task {
             parent,

@@ -1,4 +1,4 @@
-ghost use Rattle.std.specs.Prelude.{◌≡◌, true, MatchResult};
+ghost use Rattle.std.specs.Prelude.{◌≡◌, MatchResult};
 ghost use Rattle.order.specs.Asked.{Asks, create_questions};
 ghost use Rattle.order.specs.Questions.{first_number, kinds_known, region_lies, regions_lie};
 ghost use Rattle.order.specs.Refusals.{refusal_number};

@@ -1,4 +1,4 @@
-ghost use Rattle.std.specs.Prelude.{◌≡◌, ℕ, Bool, min, max, not, ◌||◌, Some, Option, nat_lt};
+ghost use Rattle.std.specs.Prelude.{◌≡◌, Bool, min, max, not, ◌||◌, Some, Option, nat_lt};
 ghost use Rattle.kinds.specs.declared.holding.Holding.{Holding};
 ghost use Rattle.kinds.specs.Kinds.{within};
 ghost use Rattle.order.specs.Holdings.{held, Compares, SomeCell};

@@ -1,4 +1,3 @@
-ghost use Rattle.std.specs.Prelude.{◌≡◌};
 ghost use Rattle.order.specs.Ready.{Listed};
 ghost use Rattle.order.specs.View.{view};
 
@@ -15,6 +14,7 @@ impl Table {
         if list.len() < MOST_TASKS {
             return Err(Refusal::ShortList);
         }
+        // Pushed and not collected: `collect` asks for an allocator and may fail, and this call has none and needs none.
         let mut startable = ArrayVec::<u16, MOST_TASKS>::new();
         for t in 0..self.len() {
             if self.may_start(t).is_ok() {

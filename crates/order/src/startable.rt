@@ -6,7 +6,7 @@ ghost use Rattle.order.specs.View.{Known, answer_number, view};
 use crate::refusal::Refusal;
 use crate::table::Table;
 
-// The questions that a start is put about all other tasks.
+// The questions that a start is put about all other tasks. Known numbers are parameters, for the reason that tree.rt gives.
 impl Table {
     pub(crate) fn len(&self) -> u16
         ensures { result ≡ length self.now.tasks.items }

@@ -7,7 +7,8 @@ use crate::refusal::Refusal;
 use crate::table::Table;
 use kinds::deed::Deed;
 
-// The questions that a read, write or update of a cell is put.
+// The questions that a read, write or update of a cell is put. Known numbers are parameters, for the reason that tree.rt gives.
+// `deed`, `t` and `cell` stay three: the public `admit` is given them so, and each question takes what it needs.
 impl Table {
     // Whether u, if it is a descendant of t, does not hinder the step.
     fn stands_aside(&self, deed: Deed, t: u16, cell: u16, u: u16) -> bool

@@ -1,9 +1,9 @@
 ghost use Rattle.std.specs.Prelude.{◌≡◌, ℕ, ◌<◌, ◌≤◌, true, length, None};
 ghost use Rattle.order.specs.Holdings.{held, in_use, Reach};
-ghost use Rattle.kinds.specs.Kinds.{asked, combine_held};
+ghost use Rattle.kinds.specs.Kinds.{asked};
 ghost use Rattle.order.specs.Questions.{regions_lie};
 ghost use Rattle.order.specs.Stretches.{end_by};
-ghost use Rattle.order.specs.Sweeping.{appended, asked_by, better, goes_on, nearest};
+ghost use Rattle.order.specs.Sweeping.{appended, asked_by, goes_on, nearest};
 ghost use Rattle.order.specs.Tasks.{World};
 
 use crate::run::Run;
@@ -22,42 +22,23 @@ fn asks(access: &Access, cell: u16) -> Option<Holding>
     }
 }
 
-fn combine_held(first: Option<Holding>, second: Option<Holding>) -> Option<Holding>
-    ensures { result ≡ combine_held first second }
-{
-    match (first, second) {
-        (Some(a), Some(b)) => Some(a.combine(b)),
-        _ => first.or(second),
-    }
-}
-
 // What the accesses together ask of the cell.
 fn asked_at(accesses: &[Access], cell: u16) -> Option<Holding>
     ensures { result ≡ asked accesses.now cell }
 {
-    accesses.iter().fold(None, |held, access| {
-        combine_held(held, asks(access, cell))
-    })
-}
-
-// The better of a bound and the best one so far, among those above pos.
-fn better_bound(pos: u16, bound: u16, best: Option<u16>) -> Option<u16>
-    ensures { result ≡ better pos bound best }
-{
-    if pos < bound && best.is_none_or(|other| bound < other) {
-        Some(bound)
-    } else {
-        best
-    }
+    accesses
+        .iter()
+        .filter_map(|access| asks(access, cell))
+        .reduce(|a, b| a.combine(b))
 }
 
 // The least bound of an access above pos.
 fn next_bound(accesses: &[Access], pos: u16) -> Option<u16>
     ensures { result ≡ nearest pos accesses.now None }
 {
-    accesses.iter().fold(None, |best, access| {
-        better_bound(pos, access.hi, better_bound(pos, access.lo, best))
-    })
+    let begins = accesses.iter().map(|access| access.lo);
+    let ends = accesses.iter().map(|access| access.hi);
+    begins.chain(ends).filter(|bound| *bound > pos).min()
 }
 
 impl Run {
@@ -77,13 +58,11 @@ impl Runs {
         requires room { length (in_use self.old) < 16 }
         ensures { in_use self.new ≡ appended (in_use self.old) run }
     {
-        match self.list.pop() {
-            Some(last) if last.goes_on(&run) => self.list.push(Run { hi: run.hi, ..last }),
-            Some(last) => {
-                self.list.push(last);
-                self.list.push(run);
-            }
-            None => self.list.push(run),
+        // Named apart, since a proof knows what a list is after a loan only where it is lent under a name of its own.
+        let list = &mut self.list;
+        match list.as_mut_slice().last_mut() {
+            Some(last) if last.goes_on(&run) => last.hi = run.hi,
+            _ => list.push(run),
         }
     }
 

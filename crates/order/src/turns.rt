@@ -33,6 +33,7 @@ impl Task {
     }
 
     // Lets go of the region, all of which has to be held, where few enough runs remain.
+    // `lo` and `hi` stay two numbers, as the call gives them.
     pub(crate) fn release(&mut self, lo: u16, hi: u16) -> Result<(), Refusal>
         requires { lo < hi }
         ensures { (n : ℕ) → hi ≤ n → Reach self.old.runs n → Released self.old lo hi n result self.new }

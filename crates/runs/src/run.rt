@@ -3,7 +3,8 @@ ghost use Rattle.order.specs.Tasks.{new};
 ghost use Rattle.order.specs.View.{view};
 ghost use Rattle.engine.specs.declared.call.Call.TheVariants.{Ready};
 ghost use Rattle.engine.specs.Engines.{Keeps, Led, LedNew};
-ghost use Rattle.engine.specs.Run.{calls_of};
+ghost use Rattle.engine.specs.declared.call.Reply.TheVariants.{Done};
+ghost use Rattle.engine.specs.Run.{calls_of, noted};
 
 use engine::call::{Call, Reply, Turn};
 use engine::engine::Engine;
@@ -20,6 +21,14 @@ fn list_ready<S: Store>(engine: &Engine<S>, places: usize) -> Result<Reply<S::E>
     Ok(Reply::Ready { count, list })
 }
 
+// The reply of a call that has nothing to tell. No `map`: the check does not follow a function whose result has a type parameter.
+fn done<E>(answer: Result<(), Refusal>) -> Result<Reply<E>, Refusal>
+    ensures { result ≡ noted (λ _. Done) answer }
+{
+    answer?;
+    Ok(Reply::Done)
+}
+
 // Performs a call by the public call of its name. A `match` and no closures, since a call is data that a list holds and a caller reads.
 fn perform<S: Store>(engine: &mut Engine<S>, call: &Call<S::E>) -> Result<Reply<S::E>, Refusal>
     ensures { Led S.Store S.E.Element engine.old call.now result engine.new }
@@ -30,35 +39,14 @@ fn perform<S: Store>(engine: &mut Engine<S>, call: &Call<S::E>) -> Result<Reply<
             waits,
             accesses,
         } => Ok(Reply::Task(engine.create(*parent, *waits, accesses)?)),
-        Call::Start { task } => {
-            engine.start(*task)?;
-            Ok(Reply::Done)
-        }
-        Call::Finish { task } => {
-            engine.finish(*task)?;
-            Ok(Reply::Done)
-        }
-        Call::Wait { task } => {
-            engine.wait(*task)?;
-            Ok(Reply::Done)
-        }
-        Call::Resume { task } => {
-            engine.resume(*task)?;
-            Ok(Reply::Done)
-        }
-        Call::Release { task, lo, hi } => {
-            engine.release(*task, *lo, *hi)?;
-            Ok(Reply::Done)
-        }
+        Call::Start { task } => done(engine.start(*task)),
+        Call::Finish { task } => done(engine.finish(*task)),
+        Call::Wait { task } => done(engine.wait(*task)),
+        Call::Resume { task } => done(engine.resume(*task)),
+        Call::Release { task, lo, hi } => done(engine.release(*task, *lo, *hi)),
         Call::Read { task, cell } => Ok(Reply::Value(engine.read(*task, *cell)?)),
-        Call::Write { task, cell, value } => {
-            engine.write(*task, *cell, *value)?;
-            Ok(Reply::Done)
-        }
-        Call::Update { task, cell, amount } => {
-            engine.update(*task, *cell, *amount)?;
-            Ok(Reply::Done)
-        }
+        Call::Write { task, cell, value } => done(engine.write(*task, *cell, *value)),
+        Call::Update { task, cell, amount } => done(engine.update(*task, *cell, *amount)),
         Call::Look { cell } => Ok(Reply::Value(engine.look(*cell)?)),
         Call::Ready { places } => list_ready(engine, *places),
     }

@@ -1,5 +1,4 @@
 ghost use Rattle.std.specs.Prelude.{◌≡◌, length};
-ghost use Rattle.order.specs.View.{view};
 ghost use Rattle.engine.specs.Engines.{KeepsAll};
 
 use engine::engine::Engine;

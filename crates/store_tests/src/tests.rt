@@ -23,12 +23,10 @@ fn blank() -> Record<Count> {
     }
 }
 
-// The fault as its three numbers, and zeros where there is none.
+// The fault as its three numbers, and zeros where there is none. Numbers, since the rules fix these and a caller sees them.
 fn numbers(r: Result<(), Fault>) -> (u8, u8, u16) {
-    match r {
-        Ok(()) => (0, 0, 0),
-        Err(f) => (f.cause.number(), f.depth, f.cell),
-    }
+    r.err()
+        .map_or((0, 0, 0), |f| (f.cause.number(), f.depth, f.cell))
 }
 
 fn wrote<S: Store<E = Count>>(store: &mut S, cell: u16, value: u64) -> (u8, u8, u16) {

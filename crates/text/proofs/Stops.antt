@@ -1,5 +1,5 @@
 -- What is known of a stop, of results made of options, and where memory was wanting.
-use Rattle.std.proofs.Common.{◌≡◌, Some, None, Err, Option, Result, MatchOption, MatchResult, ok_or, refl}
+use Rattle.std.proofs.Common.{◌≡◌, Some, None, Ok, Err, Option, Result, MatchOption, MatchResult, IfErr, ok_or, refl}
 use Rattle.text.specs.declared.unread.Stop.{Stop}
 use Rattle.text.specs.declared.unread.Stop.TheVariants.{No, Memory}
 use Rattle.text.specs.declared.unread.Unread.{Unread}
@@ -9,6 +9,10 @@ use Rattle.text.specs.Unread.{Stopped, Wanting}
 pub wanting_where : (s : Stop) (P : Type 0) → P → Wanting s P
 wanting_where (No why) P p = tt
 wanting_where (Memory error) P p = p
+
+pub wanting_in : {A : Type 0} (r : Result A Stop) (P : Type 0) → P → IfErr r (λ s. Wanting s P)
+wanting_in (Ok x) P p = tt
+wanting_in (Err s) P p = wanting_where s P p
 
 pub stopped_map : (s : Stop) (P Q : Unread → Type 0) → ((why : Unread) → P why → Q why) → Stopped s P → Stopped s Q
 stopped_map (No why) P Q f p = f why p

@@ -1,5 +1,5 @@
 -- A list of writes, with their answers, on any store.
-use Rattle.std.specs.Prelude.{◌≡◌, ℕ, List, [], ◌∷◌, Ok, Err, Result}
+use Rattle.std.specs.Prelude.{◌≡◌, ℕ, List, [], ◌∷◌, map, Ok, Err, Result}
 use Rattle.std.specs.Result.{result_err}
 use Rattle.stores.specs.declared.fault.Fault.{Fault}
 use Rattle.stores.specs.Fault.{Verdict}
@@ -10,6 +10,10 @@ use Rattle.writes.specs.declared.turn.Turn.{Turn}
 -- what a turn asks for
 abbrev pub asked : {V : Type 0} → Turn V → ℕ × V
 asked e = (e.cell, e.value)
+
+-- what all turns ask for
+abbrev pub all_asked : {V : Type 0} → List (Turn V) → List (ℕ × V)
+all_asked turns = map asked turns
 
 -- accepted writes change something step by step, and refused ones leave it
 abbrev pub changed : {M V U : Type 0} → (M → ℕ → V → M) → M → ℕ → V → Result U Fault → M

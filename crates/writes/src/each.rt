@@ -1,6 +1,6 @@
-ghost use Rattle.std.specs.Prelude.{◌≡◌, map};
+ghost use Rattle.std.specs.Prelude.{◌≡◌};
 ghost use Rattle.stores.specs.Members.{WroteOn};
-ghost use Rattle.writes.specs.Writes.{WentOn, asked};
+ghost use Rattle.writes.specs.Writes.{WentOn, all_asked};
 
 use crate::turn::Turn;
 use stores::store::Store;
@@ -14,10 +14,10 @@ fn take_turn<S: Store>(store: &mut S, turn: &mut Turn<S::E>)
     turn.answer = store.write(turn.cell, turn.value);
 }
 
-// Asks for each write in order. That what is asked for stays is one equation, here and at each caller; a name would be no shorter.
+// Asks for each write in order.
 pub fn write_each<S: Store>(store: &mut S, turns: &mut [Turn<S::E>])
     ensures went { WentOn S.Store store.old turns.new store.new }
-    ensures asked { map asked turns.new ≡ map asked turns.old }
+    ensures asked { all_asked turns.new ≡ all_asked turns.old }
 {
     for turn in turns.iter_mut() {
         take_turn(store, turn);

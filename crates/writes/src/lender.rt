@@ -1,6 +1,6 @@
-ghost use Rattle.std.specs.Prelude.{◌≡◌, map, slice_set};
+ghost use Rattle.std.specs.Prelude.{◌≡◌, slice_set};
 ghost use Rattle.writes.specs.Lender.{flat_verdict, chained, chains_verdict, unused};
-ghost use Rattle.writes.specs.Writes.{asked, all_changed, Answered};
+ghost use Rattle.writes.specs.Writes.{all_asked, all_changed, Answered};
 
 use crate::each::write_each;
 use crate::turn::Turn;
@@ -15,7 +15,7 @@ use stores::record::Record;
 pub fn write_flat<E: Element>(places: &mut [E], turns: &mut [Turn<E>])
     ensures answered { Answered flat_verdict slice_set places.old turns.new }
     ensures places { places.new ≡ all_changed slice_set places.old turns.new }
-    ensures asked { map asked turns.new ≡ map asked turns.old }
+    ensures asked { all_asked turns.new ≡ all_asked turns.old }
 {
     let mut flat = FlatStore::new(places);
     write_each(&mut flat, turns);
@@ -26,7 +26,7 @@ pub fn write_chain<E: Element>(heads: &mut [u16], records: &mut [Record<E>], tur
     ensures answered { Answered chains_verdict chained (unused heads.old records.old) turns.new }
     ensures heads { heads.new ≡ (all_changed chained (unused heads.old records.old) turns.new).heads }
     ensures records { records.new ≡ (all_changed chained (unused heads.old records.old) turns.new).records }
-    ensures asked { map asked turns.new ≡ map asked turns.old }
+    ensures asked { all_asked turns.new ≡ all_asked turns.old }
 {
     let mut chain = ChainStore::new(heads, records);
     write_each(&mut chain, turns);

@@ -1,5 +1,5 @@
-ghost use Rattle.std.specs.Prelude.{◌≡◌, map};
-ghost use Rattle.writes.specs.Writes.{asked, all_changed, Answered};
+ghost use Rattle.std.specs.Prelude.{◌≡◌};
+ghost use Rattle.writes.specs.Writes.{all_asked, all_changed, Answered};
 ghost use Rattle.writes.specs.Pile.{gauge_of, pile_verdict, after_write};
 
 use crate::each::write_each;
@@ -16,7 +16,7 @@ pub type Pile<'a, 'b, E> = Allowance<WriteBehind<E, &'b mut ChainStore<'a, E>>>;
 pub fn write_pile<'a, 'b, E: Element>(pile: &mut Pile<'a, 'b, E>, turns: &mut [Turn<E>])
     ensures answered { Answered pile_verdict after_write (gauge_of pile.old) turns.new }
     ensures after { gauge_of pile.new ≡ all_changed after_write (gauge_of pile.old) turns.new }
-    ensures asked { map asked turns.new ≡ map asked turns.old }
+    ensures asked { all_asked turns.new ≡ all_asked turns.old }
 {
     write_each(pile, turns)
 }
