@@ -1,10 +1,8 @@
 -- A sweep over the bounds of accesses: between two bounds all cells are asked alike, and each step passes a bound.
 -- Assumes nothing.
-use Rattle.std.proofs.Common.{◌≡◌, ℕ, ◌+◌, ◌-◌, ◌*◌, ◌<◌, ◌≤◌, Bool, true, false, cond, ◌&&◌, ltb, leb, ◌⊎◌, List, [], ◌∷◌, ◌++◌, map, min, length, Some, None, Option, sym, refl, ap, ◌∙◌, subst, inl, inr, arith}
-use Rattle.std.specs.List.{fold, FoldsTo, reduce, filter, filter_map, cons_option}
+use Rattle.std.proofs.Common.{◌≡◌, ℕ, ◌+◌, ◌-◌, ◌*◌, ◌<◌, ◌≤◌, Bool, true, false, cond, ◌&&◌, ltb, leb, ◌⊎◌, List, [], ◌∷◌, length, Some, None, Option, sym, refl, ap, ◌∙◌, subst, inl, inr, arith}
+use Rattle.std.specs.List.{fold, FoldsTo, reduce, filter_map, cons_option}
 use Rattle.std.proofs.lemmas.Bool.{and_parts, and_from, cases_lt, cond-true, cond-false, cond_both, lt-ltb, le-ltb, ltb-true, ltb-false, le-leb, lt-leb, leb-true}
-use Rattle.std.proofs.lemmas.Bool.Decides.{nat_tests}
-use Rattle.std.proofs.lemmas.List.Sums.{fold-append}
 use Rattle.std.proofs.lemmas.Iterator.{YieldsList}
 use Rattle.std.proofs.lemmas.Iterator.Consumers.{reduce_from_yields_List}
 use Rattle.std.specs.Fn.{Called}
@@ -62,64 +60,10 @@ asked_reduce (a ∷ more) c = go (asked_by a c) (asked_reduce more c)
     go None e = e
     go (Some h) e = combined_on rest h ∙ ap (combine_held (Some h)) e
 
--- the nearest bound of a list of bounds, beginning with the best so far
-abbrev nearest_of : ℕ → Option ℕ → List ℕ → Option ℕ
-nearest_of pos = fold (λ o b. better pos b o)
-
--- it does not depend on the order in which the bounds are looked at
-better_swap : (pos b d : ℕ) (o : Option ℕ) → better pos b (better pos d o) ≡ better pos d (better pos b o)
-better_swap pos b d None = grind (arith, nat_tests)
-better_swap pos b d (Some x) = grind (arith, nat_tests)
-
-better_last : (pos b : ℕ) (ys : List ℕ) (o : Option ℕ) → nearest_of pos (better pos b o) ys ≡ better pos b (nearest_of pos o ys)
-better_last pos b [] o = refl
-better_last pos b (d ∷ more) o = ap (λ x. nearest_of pos x more) (better_swap pos d b o) ∙ better_last pos b more (better pos d o)
-
-begins : List Access → List ℕ
-begins xs = map (λ (a : Access). a.lo) xs
-
-ends : List Access → List ℕ
-ends xs = map (λ (a : Access). a.hi) xs
-
-nearest_parts : (pos : ℕ) (xs : List Access) (o : Option ℕ) → nearest pos xs o ≡ nearest_of pos (nearest_of pos o (begins xs)) (ends xs)
-unfolding begins ends
-nearest_parts pos [] o = refl
-nearest_parts pos (a ∷ more) o =
-    nearest_parts pos more (better pos a.hi (better pos a.lo o))
-    ∙ ap (λ x. nearest_of pos x (ends more)) (better_last pos a.hi (begins more) (better pos a.lo o))
-
--- `min` of the bounds above pos finds it
-least_on : (pos : ℕ) (ys : List ℕ) (x : ℕ) → Some (fold min x (filter (ltb pos) ys)) ≡ nearest_of pos (Some x) ys
-least_on pos [] x = refl
-least_on pos (y ∷ more) x = go (cases_lt pos y) (least_on pos more x) (least_on pos more (min x y))
-  where
-    kept : Some (min x y) ≡ cond (ltb y x) (Some y) (Some x)
-    kept = grind (arith, nat_tests)
-
-    go :
-        (pos < y) ⊎ (y ≤ pos) →
-        Some (fold min x (filter (ltb pos) more)) ≡ nearest_of pos (Some x) more →
-        Some (fold min (min x y) (filter (ltb pos) more)) ≡ nearest_of pos (Some (min x y)) more →
-        Some (fold min x (filter (ltb pos) (y ∷ more))) ≡ nearest_of pos (better pos y (Some x)) more
-    go (inl h) e f = let k = lt-ltb pos y h in rw k (f ∙ ap (λ (o : Option ℕ). nearest_of pos o more) kept)
-    go (inr h) e f = let k = le-ltb pos y h in rw k e
-
-least : (pos : ℕ) (ys : List ℕ) → reduce min (filter (ltb pos) ys) ≡ nearest_of pos None ys
-least pos [] = refl
-least pos (y ∷ more) = go (cases_lt pos y) (least pos more)
-  where
-    go :
-        (pos < y) ⊎ (y ≤ pos) →
-        reduce min (filter (ltb pos) more) ≡ nearest_of pos None more →
-        reduce min (filter (ltb pos) (y ∷ more)) ≡ nearest_of pos (better pos y None) more
-    go (inl h) e = let k = lt-ltb pos y h in rw k (least_on pos more y)
-    go (inr h) e = let k = le-ltb pos y h in rw k e
-
-pub nearest_reduce : (pos : ℕ) (xs : List Access) → reduce min (filter (ltb pos) (map (λ (a : Access). a.lo) xs ++ map (λ (a : Access). a.hi) xs)) ≡ nearest pos xs None
-unfolding begins ends
-nearest_reduce pos xs =
-    least pos (begins xs ++ ends xs)
-    ∙ (fold-append (λ o b. better pos b o) None (begins xs) (ends xs) ∙ sym (nearest_parts pos xs None))
+-- what a fold over the accesses finds
+pub nearest_fold : (pos : ℕ) (xs : List Access) (best : Option ℕ) → fold (λ b a. better pos a.hi (better pos a.lo b)) best xs ≡ nearest pos xs best
+nearest_fold pos [] best = refl
+nearest_fold pos (a ∷ more) best = nearest_fold pos more (better pos a.hi (better pos a.lo best))
 
 -- a bound that is found lies at d or before
 abbrev AtMost : Option ℕ → ℕ → Type 0
