@@ -7,6 +7,7 @@ use engine::refusal::Refusal;
 use kinds::access::Access;
 use layers::allowance::Allowance;
 use layers::behind::WriteBehind;
+use layers::lent::Lent;
 use order::room::Room;
 use runs::run::run;
 use std::test::Fail;
@@ -35,7 +36,7 @@ fn faults_arrive_whole(rt: HostRuntime) -> Result<(), Fail> {
     let mut heads = [0u16; 3];
     let mut records = [Record::unused(); 1];
     let mut chain = ChainStore::new(&mut heads, &mut records);
-    let pile = Allowance::new(WriteBehind::new(&mut chain), 3);
+    let pile = Allowance::new(WriteBehind::new(Lent { store: &mut chain }), 3);
     let mut e = Engine::new(Room::reserve(rt.alloc())?, pile);
     assert_eq!(rt; no(e.write(0, 0, count(4))), OK);
     assert_eq!(rt; no(e.write(0, 1, count(5))), OK);

@@ -4,3 +4,4 @@
 pub mod allowance;
 pub mod behind;
 pub mod held;
+pub mod lent;

@@ -6,6 +6,7 @@ use elements::element::Element;
 use engine::call::Turn;
 use layers::allowance::Allowance;
 use layers::behind::WriteBehind;
+use layers::lent::Lent;
 use order::room::Room;
 use runs::run::run;
 use stores::chain::ChainStore;
@@ -27,6 +28,6 @@ pub(crate) fn run_piled<E: Element>(
     ensures calls { calls_of turns.new ≡ calls_of turns.old }
 {
     let mut chain = ChainStore::new(heads, records);
-    let pile = Allowance::new(WriteBehind::new(&mut chain), ALLOWANCE);
+    let pile = Allowance::new(WriteBehind::new(Lent { store: &mut chain }), ALLOWANCE);
     let _engine = run(room, pile, turns);
 }

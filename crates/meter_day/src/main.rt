@@ -5,6 +5,7 @@ use elements::element::Element;
 use elements::span::Span;
 use layers::allowance::Allowance;
 use layers::behind::WriteBehind;
+use layers::lent::Lent;
 use std::{fmt, io};
 use stores::chain::ChainStore;
 use stores::fault::{Cause, Fault};
@@ -108,7 +109,7 @@ fn print_totals<M: Store<E = Count>, T: Store<E = Span>>(
 
 // So many writes, held back before they reach the chain store.
 fn pile<'a, 'b, E: Element>(chain: &'b mut ChainStore<'a, E>, writes: u64) -> Pile<'a, 'b, E> {
-    Allowance::new(WriteBehind::new(chain), writes)
+    Allowance::new(WriteBehind::new(Lent { store: chain }), writes)
 }
 
 // A meter's day: three counters, with three records and eight writes; and the span of minutes, with room to spare.

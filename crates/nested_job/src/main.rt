@@ -7,6 +7,7 @@ use engine::refusal::Refusal;
 use kinds::access::Access;
 use layers::allowance::Allowance;
 use layers::behind::WriteBehind;
+use layers::lent::Lent;
 use order::room::{MOST_TASKS, Room};
 use runs::run::run;
 use std::fmt;
@@ -121,7 +122,7 @@ fn job(rt: &HostRuntime, code: u8) -> anyhow::Result<()> {
     let mut heads = [0u16; 3];
     let mut records = [Record::unused(); 16];
     let mut chain = ChainStore::new(&mut heads, &mut records);
-    let pile = Allowance::new(WriteBehind::new(&mut chain), 100);
+    let pile = Allowance::new(WriteBehind::new(Lent { store: &mut chain }), 100);
     let room = Room::reserve(rt.alloc())?;
     let _engine = run(room, pile, &mut turns);
     for turn in &turns {

@@ -4,6 +4,7 @@ use elements::element::Element;
 use elements::span::Span;
 use layers::allowance::Allowance;
 use layers::behind::WriteBehind;
+use layers::lent::Lent;
 use std::test::Fail;
 use stores::chain::ChainStore;
 use stores::fault::{Cause, Fault};
@@ -119,7 +120,7 @@ fn pile_faults(rt: HostRuntime) {
     let mut heads = [4u16; 3];
     let mut records = [blank(); 1];
     let mut chain = ChainStore::new(&mut heads, &mut records);
-    let mut pile = Allowance::new(WriteBehind::new(&mut chain), 4);
+    let mut pile = Allowance::new(WriteBehind::new(Lent { store: &mut chain }), 4);
     assert_eq!(rt; wrote(&mut pile, 2, 5), (0, 0, 0));
     assert_eq!(rt;
         wrote(&mut pile, 1, 6),

@@ -54,7 +54,6 @@ impl<'a, E: Element> Store for ChainStore<'a, E> {
         self.value_at(cell)
     }
 
-    // Not `self.count()`: on a `&mut self` that is the lent store's method, and the check follows it round to this one.
     fn write(&mut self, cell: u16, value: E) -> Result<(), Fault> {
         if cell >= reach(self.heads.len()) {
             return Err(Fault::own(Cause::NoSuchCell, cell));

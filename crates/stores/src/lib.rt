@@ -4,7 +4,6 @@
 pub mod chain;
 pub mod fault;
 pub mod flat;
-mod lent;
 mod reach;
 pub mod record;
 pub mod store;

@@ -5,7 +5,7 @@ use Rattle.layers.specs.declared.allowance.Allowance.{Allowance}
 use Rattle.layers.specs.declared.behind.WriteBehind.{WriteBehind}
 use Rattle.stores.specs.declared.chain.ChainStore.{ChainStore}
 use Rattle.layers.specs.declared.held.Held.{Held}
-use Rattle.std.specs.Borrow.{MutBor}
+use Rattle.layers.specs.declared.lent.Lent.{Lent}
 use Rattle.stores.specs.Store.{most, reached, extent, reached_length}
 use Rattle.stores.specs.Chain.{Linked, head_values, head_values_length}
 use Rattle.layers.specs.Layers.{Sank, covered, covered_length}
@@ -27,21 +27,21 @@ linked : {V : Type 0} (s t : ChainStore V) (i : ℕ) (v : V) → Links s i v t �
 linked s t i v (h, r, u) = (ap extent h ∙ ap (min most) (length-set _ _ _), u, ap extent r ∙ ap (min most) (length-set _ _ _))
 
 -- as many cells as there are heads
-pub pile_cells : {V : Type 0} (rest : V) (s : Allowance (WriteBehind V (MutBor (ChainStore V)))) → length (covered s.below.held (head_values rest s.below.below.now.records.now (reached s.below.below.now.heads.now))) ≡ (gauge_of s).cells
+pub pile_cells : {V : Type 0} (rest : V) (s : Allowance (WriteBehind V (Lent (ChainStore V)))) → length (covered s.below.held (head_values rest s.below.below.store.now.records.now (reached s.below.below.store.now.heads.now))) ≡ (gauge_of s).cells
 pile_cells rest s = covered_length _ _ ∙ head_values_length _ _ _ ∙ reached_length _
 
-module _ {V : Type 0} (took : MutBor (ChainStore V) → ℕ → V → MutBor (ChainStore V) → Type 0) (links : (s : MutBor (ChainStore V)) (i : ℕ) (v : V) (t : MutBor (ChainStore V)) → took s i v t → Links s.now i v t.now) where
-  sinks : (h : Option (Held V)) (s t : MutBor (ChainStore V)) (i : ℕ) → Sank took h s i t → Sunk s.now (taken h i) t.now
-  sinks None s t i e = same _ _ (ap (λ l. l.now) e)
+module _ {V : Type 0} (took : Lent (ChainStore V) → ℕ → V → Lent (ChainStore V) → Type 0) (links : (s : Lent (ChainStore V)) (i : ℕ) (v : V) (t : Lent (ChainStore V)) → took s i v t → Links s.store.now i v t.store.now) where
+  sinks : (h : Option (Held V)) (s t : Lent (ChainStore V)) (i : ℕ) → Sank took h s i t → Sunk s.store.now (taken h i) t.store.now
+  sinks None s t i e = same _ _ (ap (λ l. l.store.now) e)
   sinks (Some h) s t i (kept, down) = ⊎_elim held other (cases_eq i h.cell)
     where
-      held : i ≡ h.cell → Sunk s.now (taken (Some h) i) t.now
-      held e = rw (eq-eqb i h.cell e) (same s.now t.now (ap (λ l. l.now) (kept (sym e))))
+      held : i ≡ h.cell → Sunk s.store.now (taken (Some h) i) t.store.now
+      held e = rw (eq-eqb i h.cell e) (same s.store.now t.store.now (ap (λ l. l.store.now) (kept (sym e))))
 
-      other : (i ≡ h.cell → ⊥) → Sunk s.now (taken (Some h) i) t.now
-      other ne = rw (ne_eqb i h.cell ne) (linked s.now t.now h.cell h.value (links s h.cell h.value t (down (λ e. ne (sym e)))))
+      other : (i ≡ h.cell → ⊥) → Sunk s.store.now (taken (Some h) i) t.store.now
+      other ne = rw (ne_eqb i h.cell ne) (linked s.store.now t.store.now h.cell h.value (links s h.cell h.value t (down (λ e. ne (sym e)))))
 
-  pub pile_moves : (s : Allowance (WriteBehind V (MutBor (ChainStore V)))) (i : ℕ) (v : V) (t : Allowance (WriteBehind V (MutBor (ChainStore V)))) → (t.left + 1 ≡ s.left) × ((t.below.held ≡ Some (record { cell = i; value = v })) × Sank took s.below.held s.below.below i t.below.below) → gauge_of t ≡ after_write (gauge_of s) i v
+  pub pile_moves : (s : Allowance (WriteBehind V (Lent (ChainStore V)))) (i : ℕ) (v : V) (t : Allowance (WriteBehind V (Lent (ChainStore V)))) → (t.left + 1 ≡ s.left) × ((t.below.held ≡ Some (record { cell = i; value = v })) × Sank took s.below.held s.below.below i t.below.below) → gauge_of t ≡ after_write (gauge_of s) i v
   pile_moves s i v t (l, (h, b)) =
       let left : t.left ≡ s.left - 1 = omega arith in
       let down = sinks s.below.held s.below.below t.below.below i b in

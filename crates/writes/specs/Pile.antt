@@ -4,7 +4,7 @@ use Rattle.layers.specs.declared.allowance.Allowance.{Allowance}
 use Rattle.layers.specs.declared.behind.WriteBehind.{WriteBehind}
 use Rattle.stores.specs.declared.chain.ChainStore.{ChainStore}
 use Rattle.layers.specs.declared.held.Held.{Held}
-use Rattle.std.specs.Borrow.{MutBor}
+use Rattle.layers.specs.declared.lent.Lent.{Lent}
 use Rattle.stores.specs.Fault.{Verdict, existing}
 use Rattle.stores.specs.Store.{extent}
 use Rattle.stores.specs.Chain.{chain_verdict}
@@ -18,14 +18,14 @@ pub record Gauge (V : Type 0) : Type 0 where
   pub used : ℕ
   pub records : ℕ
 
-abbrev pub gauge_of : {V : Type 0} → Allowance (WriteBehind V (MutBor (ChainStore V))) → Gauge V
+abbrev pub gauge_of : {V : Type 0} → Allowance (WriteBehind V (Lent (ChainStore V))) → Gauge V
 gauge_of s =
     record {
-      cells = extent s.below.below.now.heads.now;
+      cells = extent s.below.below.store.now.heads.now;
       left = s.left;
       held = s.below.held;
-      used = s.below.below.now.used;
-      records = extent s.below.below.now.records.now;
+      used = s.below.below.store.now.used;
+      records = extent s.below.below.store.now.records.now;
     }
 
 -- no such cell; the allowance spent; open for the held cell or with nothing held; else the held cell has to go down, two layers below

@@ -7,10 +7,11 @@ use crate::turn::Turn;
 use elements::element::Element;
 use layers::allowance::Allowance;
 use layers::behind::WriteBehind;
+use layers::lent::Lent;
 use stores::chain::ChainStore;
 
 // An allowance over a write-behind over a chain store.
-pub type Pile<'a, 'b, E> = Allowance<WriteBehind<E, &'b mut ChainStore<'a, E>>>;
+pub type Pile<'a, 'b, E> = Allowance<WriteBehind<E, Lent<'b, ChainStore<'a, E>>>>;
 
 // The same on such a pile, where the numbers before tell every answer and the numbers after.
 pub fn write_pile<'a, 'b, E: Element>(pile: &mut Pile<'a, 'b, E>, turns: &mut [Turn<E>])
