@@ -11,6 +11,9 @@ use std::alloc::AllocError;
 use std::fmt;
 use stores::fault::Fault;
 
+// The bytes that a line first gets: enough for all but long ready lists. One that grew piece by piece would be moved for most pieces.
+const LINE_ROOM: usize = 64;
+
 // Each number after a space.
 fn write_spaced<W: fmt::Write, I: Iterator<Item = u64> + Drop>(
     f: &mut fmt::Formatter<W>,
@@ -91,7 +94,8 @@ pub fn write_answer<E: Element>(
 ) -> Result<(), AllocError>
     ensures { string_bytes out.new ≡ (if is_ok result then string_bytes out.old ++ line_of E.Element.numbers answer.now else string_bytes out.old) }
 {
-    let line = Line(answer).to_string(*out.allocator())?;
+    let mut line = String::with_capacity(*out.allocator(), LINE_ROOM)?;
+    write!(line, "{}", Line(answer))?;
     out.push_str(line.as_str())
 }
 

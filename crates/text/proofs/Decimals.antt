@@ -1,13 +1,10 @@
 -- Decimals: what a loop over their digits keeps, and what no decimal is.
-use Rattle.std.proofs.Common.{◌≡◌, ℕ, zero, suc, ◌+◌, ◌-◌, ◌*◌, ◌<◌, ◌≤◌, List, [], ◌∷◌, length, get_or, decimal, Some, None, Ok, Err, Result, MatchResult, IsUtf8, sym, refl, ap, ◌∙◌, subst, arith}
-use Rattle.std.specs.Result.{result_ok}
-use Rattle.std.specs.Borrow.{Bor}
-use Rattle.std.specs.Str.Parse.{ParsesUnsigned}
+use Rattle.std.proofs.Common.{◌≡◌, ℕ, zero, suc, ◌+◌, ◌-◌, ◌*◌, ◌^◌, ◌<◌, ◌≤◌, List, [], ◌∷◌, length, get_or, drop, decimal, sym, refl, ap, ◌∙◌, subst, arith}
 use Rattle.std.specs.Int.{IsInRange}
-use Rattle.std.proofs.lemmas.Fmt.{decimal_digit, decimal_nonempty, first_decimal, IsAscii-decimal, digits_decimal, digits_value-decimal, decimal-digits_value}
-use Rattle.std.proofs.lemmas.Str.{IsUtf8-from_ascii}
-use Rattle.std.proofs.lemmas.Str.Parse.{IsNumeralModel, numerals_by_fold, IsDigitsTest, FoldsDigits, parse_plain}
-use Rattle.text.specs.Form.{Small, DigitsRead}
+use Rattle.std.proofs.lemmas.Fmt.{decimal_digit, decimal_nonempty, first_decimal, digits_decimal, digits_value-decimal, decimal-digits_value}
+use Rattle.std.proofs.lemmas.List.{drop_more, drop_all}
+use Rattle.std.proofs.lemmas.Str.Parse.{IsNumeralModel, numerals_by_fold, IsDigitsTest, FoldsDigits}
+use Rattle.text.specs.Form.{Small}
 
 abbrev pub Figures : List ℕ → Type 0
 Figures [] = Unit {0}
@@ -27,38 +24,52 @@ folds = record { empty = λ n. refl; more = λ n c cs i. refl }
 own : IsNumeralModel Figures (read_on 0)
 own = numerals_by_fold Figures tells read_on folds
 
-pub decimal_figures : (n : ℕ) → Small n → Figures (decimal n)
-decimal_figures n small = digits_decimal own n small
+read_on_ge : (n : ℕ) (cs : List ℕ) → n ≤ read_on n cs
+read_on_ge n [] = omega arith
+read_on_ge n (c ∷ cs) = omega (arith, read_on_ge (n * 10 + (c - 48)) cs)
 
--- what `parse` answers is what the bytes write, but for what it reads too
-pub parse_reads : (E : Type 0) (ds : List ℕ) (r : Result ℕ E) → ParsesUnsigned 64 10 ds r → (get_or ds 0 0 ≡ 43 → ⊥) → (0 < length ds → get_or ds 0 0 ≡ 48 → length ds ≡ 1) → DigitsRead ds (result_ok r)
-parse_reads E ds (Ok x) parsed plus lead =
-    let read = parse_plain own {E = E} 64 ds (Ok x) parsed plus in
-    let fits = read.0.2 in
-    (omega (arith, read.1), sym (ap decimal read.1 ∙ decimal-digits_value own ds read.0.0 read.0.1 (lead read.0.1) fits))
-parse_reads E ds (Err e) parsed plus lead =
-    λ n small same. parse_plain own {E = E} 64 ds (Err e) parsed plus
-    (subst Figures (sym same) (digits_decimal own n small), rw same (decimal_nonempty n small), omega (arith, ap (read_on 0) same ∙ digits_value-decimal own n small))
+-- after the first i digits: the rest decides whether all are digits, and gives the number
+abbrev pub Reading : List ℕ → ℕ → ℕ → Type 0
+Reading ds i n = (Figures (drop i ds) → Figures ds) × (Figures ds → Figures (drop i ds)) × (read_on n (drop i ds) ≡ read_on 0 ds)
 
--- the text of bytes has these bytes
-pub text_same : {E : Type 0} (P : Bor (List ℕ) → Type 0) (Q : E → Type 0) (ds : List ℕ) (r : Result (Bor (List ℕ)) E) (t : Bor (List ℕ)) → MatchResult r (λ s. (s.now ≡ ds) × P s) Q → result_ok r ≡ Some t → t.now ≡ ds
-text_same P Q ds (Ok s) t cases same = let one : s ≡ t = cc in ap (λ b. b.now) (sym one) ∙ cases.0
-text_same P Q ds (Err e) t cases same = absurd cc
+module _ (ds : List ℕ) (i n : ℕ) (h : i < length ds) (so_far : Reading ds i n) where
+  pub reading_on : IsInRange 48 57 (get_or ds i 0) → Reading ds (i + 1) (n * 10 + (get_or ds i 0 - 48))
+  reading_on digit = (
+    (λ f. so_far.0 (rw (drop_more ds i 0 h) (digit, f))),
+    (λ f. (rw (drop_more ds i 0 h) at (so_far.1 f)).1),
+    sym (ap (read_on n) (drop_more ds i 0 h)) ∙ so_far.2,
+  )
 
--- bytes that are no text are no decimal
-pub no_text : {A E : Type 0} (P : A → Type 0) (Q : E → Type 0) (ds : List ℕ) (r : Result A E) → MatchResult r P (λ e. (IsUtf8 ds → ⊥) × Q e) → result_ok r ≡ None → DigitsRead ds None
-no_text P Q ds (Ok x) cases none = absurd cc
-no_text P Q ds (Err e) cases none = λ n small same. cases.0 (subst IsUtf8 (sym same) (IsUtf8-from_ascii _ (IsAscii-decimal n small)))
+  -- bytes that go on with something else are no decimal
+  pub no_digit : (IsInRange 48 57 (get_or ds i 0) → ⊥) → (m : ℕ) → Small m → ds ≡ decimal m → ⊥
+  no_digit other m small e =
+      other (rw (drop_more ds i 0 h) at (so_far.1 (subst Figures (sym e) (digits_decimal own m small)))).0
 
-figures_first : (ds : List ℕ) → Figures ds → 0 < length ds → 48 ≤ get_or ds 0 0
-figures_first [] f some = omega arith
-figures_first (d ∷ ds) f some = f.0.0
+  -- nor are digits of too large a number
+  pub too_large : 2 ^ 64 ≤ n * 10 + (get_or ds i 0 - 48) → (m : ℕ) → Small m → ds ≡ decimal m → ⊥
+  too_large large m small e =
+      let more = read_on_ge (n * 10 + (get_or ds i 0 - 48)) (drop (i + 1) ds) in
+      let whole = sym (ap (read_on n) (drop_more ds i 0 h)) ∙ so_far.2 in
+      let value = ap (read_on 0) e ∙ digits_value-decimal own m small in
+      omega arith
 
--- a decimal begins with no plus, and with 0 only where that is all
-pub decimal_first : (ds : List ℕ) (n : ℕ) → Small n → ds ≡ decimal n → (get_or ds 0 0 ≡ 43 → ⊥) × (get_or ds 0 0 ≡ 48 → length ds ≡ 1)
-decimal_first ds n small e =
-    rw e ((λ plus. omega (arith, figures_first (decimal n) (decimal_figures n small) (decimal_nonempty n small))), first n small)
+pub read_whole : (ds : List ℕ) (i n : ℕ) → length ds ≤ i → Reading ds i n → 0 < length ds → (get_or ds 0 0 ≡ 48 → length ds ≡ 1) → Small n → ds ≡ decimal n
+read_whole ds i n past so_far some lead small =
+    let none = drop_all i ds past in
+    let all : Figures ds = so_far.0 (rw none tt) in
+    let value : n ≡ read_on 0 ds = sym (ap (read_on n) none) ∙ so_far.2 in
+    let fits : read_on 0 ds < 2 ^ 64 = omega arith in
+    sym (ap decimal value ∙ decimal-digits_value own ds all some lead fits)
+
+pub decimal_first : (ds : List ℕ) (n : ℕ) → Small n → ds ≡ decimal n → (0 < length ds) × (get_or ds 0 0 ≡ 48 → length ds ≡ 1)
+decimal_first ds n small e = rw e (some n small, first n small)
   where
+    some : (n : ℕ) → Small n → 0 < length (decimal n)
+    some n small = decimal_nonempty n small
+
     first : (n : ℕ) → Small n → get_or (decimal n) 0 0 ≡ 48 → length (decimal n) ≡ 1
     first zero small q = ap length (decimal_digit 0 (omega arith))
     first (suc n) small q = omega (arith, first_decimal (suc n) (omega arith) small)
+
+pub decimal_figures : (n : ℕ) → Small n → Figures (decimal n)
+decimal_figures n small = digits_decimal own n small
