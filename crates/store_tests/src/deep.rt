@@ -35,7 +35,8 @@ impl Store for Deep {
     }
 
     fn write(&mut self, cell: u16, value: Count) -> Result<(), Fault> {
-        if cell >= 1 {
+        // A store may ask itself for its count, as its users' stores will.
+        if cell >= self.count() {
             return Err(Fault {
                 cause: Cause::NoSuchCell,
                 depth: 0,
