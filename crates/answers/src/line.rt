@@ -11,7 +11,8 @@ use std::alloc::AllocError;
 use std::fmt;
 use stores::fault::Fault;
 
-// The bytes that a line first gets: enough for all but long ready lists. One that grew piece by piece would be moved for most pieces.
+// The bytes that a line first gets: enough for all but long ready lists and values of many numbers. A line that grew piece by piece would be
+// moved for most pieces.
 const LINE_ROOM: usize = 64;
 
 // Each number after a space.

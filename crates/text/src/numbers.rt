@@ -46,7 +46,7 @@ fn number_of(digits: &[u8]) -> Option<u64>
     if digits[0] == b'0' && digits.len() > 1 {
         return None;
     }
-    // A `for` and no `parse`: with the check that `parse` wants the word to be text, reading a call takes 1.6 times as long.
+    // A `for` and no `parse`, which needs the word checked to be text: with both, reading a call takes 1.4 to 1.75 times as long.
     let mut number: u64 = 0;
     for b in digits {
         if *b < b'0' || *b > b'9' {
